@@ -1,0 +1,63 @@
+-- Words for contracts below the calls: what the bytes of a lent table hold, and what a step has left behind.
+use mathlib.Core.Path.{_≡_}
+use mathlib.Core.Bool.{true}
+use mathlib.Core.List.{List, [], _∷_}
+use Prim.Native.Nat.{ℕ, _+_, _*_, _^_, _≤_, _<_}
+use lib.ListN.{length}
+use Rattle.protocol.specs.Bytes.{spliced}
+use Rattle.protocol.specs.Records.{Rec}
+use Rattle.protocol.specs.Table.{Table, encodeTable, decodeTable, rulesHold, lastTime}
+use Rattle.protocol.specs.Answers.{replyText}
+use Rattle.protocol.specs.Steps.{Step}
+use Rattle.protocol.specs.Calls.{outcomeOf}
+use Rattle.protocol.specs.declared.Outcome.{Outcome}
+
+-- texts and secrets that a record's block has room for
+pub record Sized (r : Rec) : Type 0 where
+  pub secret : length (r .secret) ≡ 16
+  pub text : length (r .text) ≤ 200
+  pub iou : length (r .iou) ≡ 16
+
+-- and numbers that its fields can hold
+pub record Fits (r : Rec) : Type 0 where
+  pub parent : r .parent < 65536
+  pub session : r .session < 65536
+  pub serial : r .serial < 4294967296
+  pub expiry : r .expiry < 18446744073709551616
+  pub sized : Sized r
+
+unfoldable pub AllFit : List Rec → Type 0
+AllFit [] = Unit
+AllFit (r ∷ rs) = Fits r × AllFit rs
+
+-- the bytes are those of the table that they say, and that is one that bytes can say
+pub record Fine (b : List ℕ) : Type 0 where
+  pub same : b ≡ encodeTable (decodeTable b)
+  pub clock : decodeTable b .clock ≤ lastTime
+  pub next : decodeTable b .next < 4294967296
+  pub fit : AllFit (decodeTable b .slots)
+  pub few : length (decodeTable b .slots) ≤ 127
+  pub count : length b ≡ 512 + 512 * length (decodeTable b .slots)
+
+-- the bytes b hold the table t
+pub record Holds (b : List ℕ) (t : Table) : Type 0 where
+  pub is : decodeTable b ≡ t
+  pub fine : Fine b
+
+-- k is a slot of the table's bytes
+pub record In (k : ℕ) (b : List ℕ) : Type 0 where
+  pub low : 1 ≤ k
+  pub high : 512 * k + 512 ≤ length b
+
+-- the table that the bytes say keeps the rules, too
+pub record Lawful (b : List ℕ) : Type 0 where
+  pub fine : Fine b
+  pub rules : rulesHold (decodeTable b) ≡ true
+
+-- a step was done: the result r, the table's bytes b, and output and cookie output, o and c before it, o′ and c′ after it,
+-- are as the step tells
+pub record Did (s : Step) (r : Outcome) (b o o′ c c′ : List ℕ) : Type 0 where
+  pub outcome : r ≡ outcomeOf s
+  pub table : Holds b (s .table)
+  pub out : o′ ≡ spliced o 0 (replyText (s .reply))
+  pub cookie : c′ ≡ spliced c 0 (s .cookie)

@@ -1,0 +1,102 @@
+-- A record of the table: what its block says, and the rules that it keeps by itself.
+-- 0 kind, 1 mark, 2-3 parent, 4-5 session, 6 depth, 8-11 serial, 16-23 expiry, 24-39 secret,
+-- 40-41 text length, 44-243 text, 256-271 IOU secret; every other byte is zero, the check last.
+use mathlib.Core.Bool.{Bool, true, false, _&&_}
+use mathlib.Core.List.{List, [], _∷_, _++_}
+use Prim.Native.Nat.{ℕ, _+_}
+use lib.Dec.{eqb, leb, ltb}
+use lib.ListN.{length, take, drop, getD}
+use Rattle.protocol.specs.Bytes.{if, same, within, allWithin, zeros, padTo, part, num, bytesOf}
+use Rattle.protocol.specs.Blocks.{sealed}
+use Rattle.protocol.specs.Tickets.{aFree, aWaiting, lifetime, secretLength, markMost, depthLeast, depthMost, textLeast, textMost, ticketText}
+
+pub record Rec : Type 0 where
+  pub kind : ℕ
+  pub mark : ℕ
+  pub parent : ℕ
+  pub session : ℕ
+  pub depth : ℕ
+  pub serial : ℕ
+  pub expiry : ℕ
+  pub secret : List ℕ
+  pub text : List ℕ
+  pub iou : List ℕ
+
+-- a free record is zero
+abbrev pub freeRec : Rec
+freeRec = record { kind = 0; mark = 0; parent = 0; session = 0; depth = 0; serial = 0; expiry = 0; secret = zeros 16; text = []; iou = zeros 16 }
+
+-- the 508 bytes of a record
+unfoldable pub recBody : Rec → List ℕ
+recBody r =
+    (r .kind ∷ r .mark ∷ [])
+    ++ (bytesOf 2 (r .parent)
+    ++ (bytesOf 2 (r .session)
+    ++ ((r .depth ∷ 0 ∷ [])
+    ++ (bytesOf 4 (r .serial)
+    ++ (zeros 4
+    ++ (bytesOf 8 (r .expiry)
+    ++ (padTo 16 (r .secret)
+    ++ (bytesOf 2 (length (r .text))
+    ++ (zeros 2
+    ++ (padTo 212 (r .text)
+    ++ (padTo 16 (r .iou)
+    ++ zeros 236)))))))))))
+
+-- its block
+unfoldable pub encodeRec : Rec → List ℕ
+encodeRec r = sealed (recBody r)
+
+-- the record that a block says
+unfoldable pub decodeRec : List ℕ → Rec
+decodeRec b =
+    record {
+      kind = getD b 0 0;
+      mark = getD b 1 0;
+      parent = num 2 2 b;
+      session = num 4 2 b;
+      depth = getD b 6 0;
+      serial = num 8 4 b;
+      expiry = num 16 8 b;
+      secret = part 24 16 b;
+      text = part 44 (num 40 2 b) b;
+      iou = part 256 16 b;
+    }
+
+-- a record's ticket text
+unfoldable pub nameOf : Rec → List ℕ
+nameOf r = ticketText (r .kind) (r .serial) (r .secret)
+
+-- a record is live while T < expiry
+abbrev pub live : ℕ → Rec → Bool
+live clock r = ltb clock (r .expiry)
+
+-- bytes of a record's text: 32 to 126
+unfoldable pub textRight : Rec → Bool
+textRight r = within (textLeast (r .kind)) (textMost (r .kind)) (length (r .text)) && allWithin 32 126 (r .text)
+
+-- fields that the kind does not use are zero, the others in range
+unfoldable pub fieldsRight : Rec → Bool
+fieldsRight r =
+    leb (r .kind) 6
+    && leb (r .mark) (markMost (r .kind))
+    && within (depthLeast (r .kind)) (depthMost (r .kind)) (r .depth)
+    && allWithin 0 0 (drop (secretLength (r .kind)) (r .secret))
+    && textRight r
+    && (if (eqb (r .kind) aWaiting) true (allWithin 0 0 (r .iou)))
+
+-- a serial is nonzero and issued: below the next, or any where all are used
+unfoldable pub serialRight : ℕ → ℕ → Bool
+serialRight next serial = leb 1 serial && (if (eqb next 0) true (ltb serial next))
+
+-- T < expiry, at most T plus the kind's lifetime
+unfoldable pub expiryRight : ℕ → Rec → Bool
+expiryRight clock r = live clock r && leb (r .expiry) (clock + lifetime (r .kind))
+
+-- the rules of one record by itself, under the header's clock and next serial
+unfoldable pub ownRight : ℕ → ℕ → Rec → Bool
+ownRight clock next r =
+    fieldsRight r
+    && (if (eqb (r .kind) aFree)
+    (eqb (r .serial) 0 && eqb (r .expiry) 0)
+    (serialRight next (r .serial) && expiryRight clock r))

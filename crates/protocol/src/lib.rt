@@ -1,0 +1,52 @@
+// The types of the interface: what a request is, what a call answers, and what reading a form gives.
+
+pub enum Method {
+    Get,
+    Post,
+}
+
+// The three validators: /cas/validate, /cas/serviceValidate, /cas/proxyValidate.
+pub enum Validator {
+    Plain,
+    Service,
+    Proxy,
+}
+
+// The path of a request, by the names of document 01.
+pub enum Path {
+    Login,
+    Logout,
+    Validate(Validator),
+    Proxy,
+    Unknown,
+}
+
+// What was answered, each with its own data: a page and its status, a redirect and whether it carries a ticket,
+// the text `yes` or `no`, XML and whether it tells of success, a callback and the serial of its waiting grant.
+// A refused call answers nothing.
+pub enum Answer {
+    Nothing,
+    Page(u32),
+    Redirect(bool),
+    Text(bool),
+    Xml(bool),
+    Callback(u32),
+}
+
+// The result of answer and of finish.
+pub struct Outcome {
+    pub refusal: u32,
+    pub answer: Answer,
+    pub status: u32,
+    pub length: usize,
+    pub cookie_length: usize,
+    pub cookie_cleared: bool,
+    pub callback_serial: u32,
+}
+
+// The result of the form reader.
+pub struct Form {
+    pub refusal: u32,
+    pub username_length: usize,
+    pub password_length: usize,
+}
