@@ -22,7 +22,7 @@ use Rattle.protocol.specs.Held.{AllFit}
 use Rattle.protocol.proofs.Laws.{both, length-table, rules, lawful-rules, lawful-fits, lawful-next}
 use Rattle.protocol.proofs.Sound.{Sound, sound-lawful, tick-sound, free-fits}
 use Rattle.protocol.proofs.Kept.{free-right}
-use Rattle.protocol.proofs.Lengths.{size-request, size-tick}
+use Rattle.protocol.proofs.Edits.{request-edits, size-edits, size-tick}
 use Rattle.protocol.proofs.Sizes.{length-spliced, small-fits}
 use Rattle.protocol.proofs.Replies.{Fitting, request-fits}
 use Rattle.protocol.specs.Answers.{replyText}
@@ -129,7 +129,7 @@ slots-read b = length-map (blocks (length b / 512 - 1) 512 (drop 512 b)) decodeR
 step-length : (i : Inputs) → length (stepOf i .table .slots) ≡ length (i .table) / 512 - 1
 unfolding stepOf
 step-length i =
-    size-request (i .method) (pathNamed (pathPart (i .target))) (queryPart (i .target)) (i .body) (brought i) (tick (i .time) (decodeTable (i .table)))
+    size-edits (request-edits (i .method) (pathNamed (pathPart (i .target))) (queryPart (i .target)) (i .body) (brought i) (tick (i .time) (decodeTable (i .table))))
     ∙ size-tick (i .time) (decodeTable (i .table)) ∙ slots-read (i .table)
 
 pub record Lengths (i : Inputs) (r : Result) : Type 0 where
