@@ -1,19 +1,19 @@
 -- What the bytes of a lent table hold: between bytes and the table that they say, slots read, records and headers laid. Assumes nothing.
 use mathlib.Core.Path.{_≡_, refl, sym, ap, _∙_}
 use mathlib.Core.Bool.{Bool, true}
-use mathlib.Core.List.{List, [], _∷_, _++_, map}
-use Prim.Native.Nat.{ℕ, zero, suc, _+_, _-_, _*_, _/_, _%_, _^_, _≤_, _<_, max}
+use mathlib.Core.List.{List}
+use Prim.Native.Nat.{ℕ, zero, suc, _+_, _*_, _≤_, _<_}
 use native.Mathlib.Omega.{arith}
-use lib.ListN.{length, take, drop, getD, set}
-use Rattle.protocol.specs.Bytes.{part, num, spliced}
+use lib.ListN.{length}
+use Rattle.protocol.specs.Bytes.{part, spliced}
 use Rattle.protocol.specs.Blocks.{sealed}
-use Rattle.protocol.specs.Records.{Rec, freeRec, encodeRec, decodeRec}
-use Rattle.protocol.specs.Table.{Table, tableOf, headBody, encodeTable, decodeTable, recAt, putAt, slotWhere, lastTime}
+use Rattle.protocol.specs.Records.{Rec, encodeRec, decodeRec}
+use Rattle.protocol.specs.Table.{Table, tableOf, headBody, encodeTable, decodeTable, recAt, slotWhere, lastTime}
 use Rattle.protocol.specs.Steps.{put, slotFor, roomFor}
-use Rattle.protocol.specs.Held.{Sized, Fits, AllFit, Fine, Holds, In, Lawful}
+use Rattle.protocol.specs.Held.{Fits, AllFit, Fine, Holds, In, Lawful}
 use Rattle.protocol.proofs.Laws.{rules, table-back, length-table, length-rec}
 use Rattle.protocol.proofs.Places.{slot-read, slot-bytes, put-bytes, head-put, slots-count}
-use Rattle.protocol.proofs.Added.{Chosen, slot-chosen, room-one}
+use Rattle.protocol.proofs.Added.{slot-chosen, room-one}
 use Rattle.protocol.proofs.Sound.{Sound, fit-put, fit-slot, length-put}
 
 -- bytes that a table in range wrote hold it
