@@ -2,7 +2,7 @@
 use mathlib.Core.Path.{_≡_, refl, sym, ap, _∙_}
 use mathlib.Core.List.{List, [], _∷_, _++_, append-assoc, append-nil}
 use Prim.Native.Nat.{ℕ, zero, suc, _+_, _-_, _*_, _/_, _%_, _^_, _<_, _≤_}
-use native.Mathlib.Nat.{pow-suc, add-assoc, lt-of-lt-of-le, pow-le-pow-right}
+use native.Mathlib.Nat.{pow-suc, lt-of-lt-of-le, pow-le-pow-right}
 use native.Mathlib.Numerals.{add-one}
 use native.Mathlib.Omega.{arith}
 use lib.Dec.{lit<}
@@ -11,6 +11,7 @@ use lib.Seq.{drop-cons, drop-drop, drop-append-add, drop-at, take-at, sets, sets
 use Rattle.protocol.specs.Bytes.{leOf, bytesOf, part, num, zeros, padTo, spliced}
 use Rattle.protocol.specs.Blocks.{houseCheck, sealed}
 use Rattle.protocol.proofs.Laws.{le-bytes, length-bytes}
+use Rattle.text.proofs.Splice.{splice-append}
 
 -- one byte and the rest
 num-suc : (k : ℕ) (s : List ℕ) (at : ℕ) → at < length s → num at (suc k) s ≡ getD s at 0 + 256 * num (at + 1) k s
@@ -73,26 +74,9 @@ pub put-done : (s : List ℕ) (at n i w : ℕ) → n ≤ i → sets s at (bytesO
 unfolding bytesOf
 put-done s at n i w h = let a : n - i ≡ 0 = omega arith in rw a
 
--- a turn of a loop that stores bs from a place on: what is left to store, and its end
-pub store-more : (bs s : List ℕ) (at i x : ℕ) → i < length bs → x ≡ getD bs i 0
-    → sets (set s (at + i) x) (at + (i + 1)) (drop (i + 1) bs) ≡ sets s (at + i) (drop i bs)
-store-more bs s at i x h e =
-    let b : at + (i + 1) ≡ suc (at + i) = omega arith in
-    rw (b, add-one, drop-cons bs i 0 h, e)
-
-pub store-done : (bs s s₀ : List ℕ) (at i : ℕ) → length bs ≤ i → at + length bs ≤ length s₀
-    → sets s (at + i) (drop i bs) ≡ sets s₀ at bs → s ≡ spliced s₀ at bs
-store-done bs s s₀ at i h g e = (rw (drop-of-length-le bs h) at e) ∙ sets-spliced bs s₀ at g
-
 -- two texts written one after the other are one
 pub spliced-twice : (s xs ys : List ℕ) (at n : ℕ) → at + length xs ≡ n → n ≤ length s → spliced (spliced s at xs) n ys ≡ spliced s at (xs ++ ys)
-unfolding spliced
-spliced-twice s xs ys at n e h =
-    let d : List ℕ = drop (at + length xs) s in
-    let g : take at s ++ (xs ++ d) ≡ (take at s ++ xs) ++ d = sym (append-assoc (take at s) xs d) in
-    let k : length (take at s ++ xs) ≡ n = simp (length-append, length-take-le at s (omega arith)) (omega arith) in
-    let m : drop (n + length ys) ((take at s ++ xs) ++ d) ≡ drop (at + length (xs ++ ys)) s = rw (sym k) (drop-append-add (take at s ++ xs) d (length ys)) ∙ (drop-drop (length ys) (at + length xs) s ∙ rw (length-append xs ys) (rw add-assoc)) in
-    rw (g, take-at (take at s ++ xs) d n k, m) (simp append-assoc)
+spliced-twice s xs ys at n e h = rw (sym e) (splice-append s xs ys at (omega arith))
 
 -- what was written is read back; the part, and the number
 pub part-spliced : (bs s : List ℕ) (at k : ℕ) → length bs ≡ k → at ≤ length s → part at k (spliced s at bs) ≡ bs

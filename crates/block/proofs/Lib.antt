@@ -3,3 +3,4 @@ pub mod Laws
 pub mod Lay
 pub mod Sums
 pub mod Parts
+pub mod Within

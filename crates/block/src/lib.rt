@@ -3,7 +3,7 @@ ghost use mathlib.Core.Path.{_≡_};
 ghost use mathlib.Core.List.{[], _∷_};
 ghost use Prim.Native.Nat.{_+_, _*_, _≤_, _<_, _^_};
 ghost use lib.ListN.{length, take};
-ghost use Rattle.protocol.specs.Bytes.{num, part, bytesOf, zeros, padTo, spliced};
+ghost use Rattle.protocol.specs.Bytes.{allWithin, num, part, bytesOf, zeros, padTo, spliced};
 ghost use Rattle.protocol.specs.Blocks.{houseCheck, checkRight, sealed};
 
 fn wide(x: u8) -> u64
@@ -48,6 +48,23 @@ pub fn get_u64(s: &[u8], at: usize) -> u64
     ensures { λ r. ⌜ r ≡ num at 8 (now (s .entry)) ⌝ }
 {
     get(s, at, 8)
+}
+
+// Is every byte from lo to hi? Zeros are the bytes from 0 to 0.
+pub fn all_within(s: &[u8], lo: u8, hi: u8) -> bool
+    ensures { λ r. ⌜ r ≡ allWithin lo hi (now (s .entry)) ⌝ }
+{
+    let mut i = 0;
+    while i < s.len() {
+        if s[i] < lo {
+            return false;
+        }
+        if hi < s[i] {
+            return false;
+        }
+        i += 1;
+    }
+    true
 }
 
 // ---- fields written
