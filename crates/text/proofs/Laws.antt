@@ -8,7 +8,7 @@ use native.Mathlib.Omega.{arith}
 use lib.Dec.{eqb}
 use lib.ListN.{length, drop, getD, set, length-replicate, drop-of-length-le}
 use borrow.Author.Tests.{eq-eqb, ne-eqb, lt-ltb, le-ltb}
-use Rattle.protocol.specs.Bytes.{if, same, zeros, digits, hexDigit, hex}
+use Rattle.protocol.specs.Bytes.{same, zeros, digits, hexDigit, hex}
 use Rattle.protocol.specs.Answers.{escapedByte, escaped}
 use Rattle.protocol.specs.Written.{Wrote}
 use Rattle.text.proofs.Splice.{Left, left-room, left-start, left-put, left-byte, left-lt, left-done, wrote-byte, wrote-none, drop-step}

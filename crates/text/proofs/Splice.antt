@@ -1,5 +1,5 @@
 -- Laws of writing into a lent buffer, for any writer; what `Room` and `Wrote` mean is in protocol's Written.
---     then        two writes in a row are one write of both texts
+--     then        two writes in a row are one write of both texts; room-first, room-next: there is room for each
 --     Left        of what is to be written, `rest` is left, and what stands there is right so far
 --     left-start  nothing is written yet        left-room   there is room for the next part
 --     left-put    a part was written            left-byte   a byte was stored
@@ -95,6 +95,20 @@ then {d} {e} {f} {a} {b} {at} {to} {next} v w =
       room = omega (arith, v .same, w .room);
       same = w .same ∙ v .same;
     }
+
+-- where there is room for both, there is for the first, and then for the second
+pub room-first : (d : List ℕ) (at : ℕ) (a b : List ℕ) → Room d at (a ++ b) → Room d at a
+room-first d at a b r = record { fits = omega (arith, r .fits, length-append a b) }
+
+pub room-next : (d e : List ℕ) (at to : ℕ) (a b : List ℕ) → Room d at (a ++ b) → Wrote d at e to a → Room e to b
+room-next d e at to a b r w = record { fits = omega (arith, r .fits, w .moves, w .same, length-append a b) }
+
+-- what was written at the start of the buffer is read there
+pub read-back : (d e t : List ℕ) (n : ℕ) → Wrote d 0 e n t → take n e ≡ t
+unfolding spliced
+read-back d e t n w =
+    let k : length t ≡ n = omega (arith, w .moves) in
+    ap (take n) (w .holds) ∙ take-at t (drop (0 + length t) d) n k
 
 -- a text that is another's equal was written as well, and has room where the other has
 pub wrote-as : {d e s t : List ℕ} {at to : ℕ} → s ≡ t → Wrote d at e to s → Wrote d at e to t
