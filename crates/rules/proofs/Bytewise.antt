@@ -53,7 +53,7 @@ spelt (x ∷ xs) h =
     rw (a, d, spelt xs (λ i. h (suc i)))
 
 module _ (b : List ℕ) (y : (i : ℕ) → getD b i 0 < 256) where
-  part-bytes : (at k : ℕ) → at + k ≤ length b → (i : ℕ) → getD (part at k b) i 0 < 256
+  pub part-bytes : (at k : ℕ) → at + k ≤ length b → (i : ℕ) → getD (part at k b) i 0 < 256
   part-bytes at k g i = by-place (decLt i k)
     where
       by-place : Dec (i < k) → getD (part at k b) i 0 < 256
