@@ -1,1 +1,4 @@
 -- The proof of demand 3.
+pub mod Base
+pub mod Sim
+pub mod Edits
