@@ -2,3 +2,4 @@
 pub mod Base
 pub mod Sim
 pub mod Edits
+pub mod Look
