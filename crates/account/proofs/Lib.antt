@@ -3,3 +3,4 @@ pub mod Base
 pub mod Sim
 pub mod Edits
 pub mod Look
+pub mod Tables
