@@ -4,3 +4,4 @@ pub mod Sim
 pub mod Edits
 pub mod Look
 pub mod Tables
+pub mod Sessions
