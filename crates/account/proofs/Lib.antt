@@ -5,3 +5,5 @@ pub mod Edits
 pub mod Look
 pub mod Tables
 pub mod Sessions
+pub mod Making
+pub mod Reached
