@@ -7,3 +7,4 @@ pub mod Tables
 pub mod Sessions
 pub mod Making
 pub mod Reached
+pub mod Chains

@@ -80,11 +80,12 @@ module _ (L : Notebook) (t : Table) (w : Tied L t) (k : ℕ) (lk : lives (L .clo
   other-parent : (a : Slot) (j : ℕ) → Under (w .A) a → upOf (a .r) ≡ suc j → eqb (suc j) k ≡ false
   other-parent a j u e = ne-eqb (suc j) k (λ x. ng (rw x at (up-grants (w .A) _ _ _ j (u .line) e .0)))
 
-  pub tied-remove : (q : Line → Bool) (F : Fate) → isHeld F ≡ false → q (on (w .A) k .e) ≡ true
-    → ((j : ℕ) → lives (L .clock) (w .A) j ≡ true → j ≢ k → q (on (w .A) j .e) ≡ false) → Tied (closeAll F q L) (remove k t)
+  pub tied-removed : (q : Line → Bool) (F : Fate) → isHeld F ≡ false → q (on (w .A) k .e) ≡ true
+    → ((j : ℕ) → lives (L .clock) (w .A) j ≡ true → j ≢ k → q (on (w .A) j .e) ≡ false)
+    → (v : Tied (closeAll F q L) (remove k t)) × (v .A ≡ set (w .A) k noSlot) × (v .n ≡ w .n)
   unfolding closeAll spent
-  tied-remove q F hF picked others =
-      record {
+  tied-removed q F hF picked others =
+      (record {
         A = spent;
         n = w .n;
         slots-are = put-slots (t .slots) (w .A) k noSlot (w .slots-are) some-slot;
@@ -93,7 +94,7 @@ module _ (L : Notebook) (t : Table) (w : Tied L t) (k : ℕ) (lk : lives (L .clo
         sim =
           sim-drop L (w .A) spent (w .n) (w .sim) (λ i. eqb i k) q F hF (length-set (w .A) k noSlot) spent-keep spent-gone agree
             (λ i l u z. other-home (on (w .A) i) u) (λ i j l u e z. other-parent (on (w .A) i) j u e);
-      }
+      }, refl, refl)
     where
       agree : (i : ℕ) → lives (L .clock) (w .A) i ≡ true → q (on (w .A) i .e) ≡ eqb i k
       agree i l = go (ℕ-discrete i k)
@@ -101,6 +102,10 @@ module _ (L : Notebook) (t : Table) (w : Tied L t) (k : ℕ) (lk : lives (L .clo
           go : Dec (i ≡ k) → q (on (w .A) i .e) ≡ eqb i k
           go (yes e) = rw e picked ∙ sym (eq-eqb i k e)
           go (no ne) = others i l ne ∙ sym (ne-eqb i k ne)
+
+  pub tied-remove : (q : Line → Bool) (F : Fate) → isHeld F ≡ false → q (on (w .A) k .e) ≡ true
+    → ((j : ℕ) → lives (L .clock) (w .A) j ≡ true → j ≢ k → q (on (w .A) j .e) ≡ false) → Tied (closeAll F q L) (remove k t)
+  tied-remove q F hF picked others = tied-removed q F hF picked others .0
 
   -- what was said of it still holds of its session and parents
   pub spent-good : Good (set (w .A) k noSlot) (w .n) (on (w .A) k)
