@@ -8,3 +8,4 @@ pub mod Sessions
 pub mod Making
 pub mod Reached
 pub mod Chains
+pub mod Items
