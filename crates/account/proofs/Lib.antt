@@ -9,3 +9,4 @@ pub mod Making
 pub mod Reached
 pub mod Chains
 pub mod Items
+pub mod Texts
