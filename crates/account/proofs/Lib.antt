@@ -10,3 +10,10 @@ pub mod Reached
 pub mod Chains
 pub mod Items
 pub mod Texts
+pub mod Counts
+pub mod LoginGet
+pub mod LoginPost
+pub mod Validators
+pub mod Others
+pub mod Run
+pub mod Traced
