@@ -17,3 +17,5 @@ pub mod Validators
 pub mod Others
 pub mod Run
 pub mod Traced
+pub mod Books
+pub mod Demand
