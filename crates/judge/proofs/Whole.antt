@@ -8,21 +8,21 @@ use native.Mathlib.Omega.{arith}
 use native.Mathlib.Decide.{decLt, decLe}
 use borrow.Author.Tests.{eq-eqb, eqb-true, leb-true, le-leb}
 use lib.Dec.{eqb, leb, lit≤}
-use lib.ListN.{length, take, drop, getD, length-drop, List·getD-eq-default}
+use lib.ListN.{length, take, drop, getD, List·getD-eq-default}
 use lib.Seq.{take-all, take-take, length-take-le}
 use Rattle.protocol.specs.Bytes.{same, part, num, bytesOf}
 use Rattle.protocol.specs.Blocks.{houseCheck, checkRight, sealed}
 use Rattle.protocol.specs.Tickets.{aFree, aLogin}
 use Rattle.protocol.specs.Records.{Rec, freeRec, recBody, encodeRec, decodeRec, ownRight}
-use Rattle.protocol.specs.Table.{Table, headBody, encodeTable, decodeTable, recAt, countKind, serialTaken, serialsDiffer, sessionRight, parentRight, rulesHold, tableLawful, loginCap, lastTime}
-use Rattle.protocol.proofs.Laws.{both, same-eq, same-refl, recRight, Rules, rules, rules-hold, sized-read, length-body, length-bytes, lawful-bytes, lawful-fits, lawful-clock, lawful-rules}
+use Rattle.protocol.specs.Table.{headBody, decodeTable, countKind, serialTaken, serialsDiffer, sessionRight, parentRight, tableLawful, loginCap, lastTime}
+use Rattle.protocol.proofs.Laws.{both, same-eq, same-refl, recRight, Rules, rules, rules-hold, sized-read, length-body, lawful-bytes, lawful-fits, lawful-clock, lawful-rules}
 use Rattle.protocol.proofs.Notice.{house-below}
 use Rattle.protocol.proofs.Places.{head-bytes, slots-count, lawful-by-blocks, block-lawful}
 use Rattle.protocol.proofs.Kept.{free-right, right-all, right-slot}
 use Rattle.rules.proofs.Bytewise.{one-test, length-part, front-test, field-test, part-bytes}
 use Rattle.rules.proofs.Laws.{Bytes}
 use Rattle.block.proofs.Parts.{part-part}
-use Rattle.judge.specs.Tests.{blockAt, saidAt, fromSlot, aloneAt, slotRight, allFrom, headRight, judged}
+use Rattle.judge.specs.Tests.{blockAt, saidAt, aloneAt, slotRight, allFrom, headRight, judged}
 use Rattle.judge.proofs.Slots.{said-block}
 
 -- A block: its 508 bytes and its check

@@ -2,13 +2,13 @@
 use mathlib.Core.Path.{_≡_}
 use mathlib.Core.Bool.{true}
 use mathlib.Core.List.{List}
-use Prim.Native.Nat.{ℕ, _+_, _*_, _/_, _%_, _-_, _≤_}
+use Prim.Native.Nat.{ℕ, _*_, _/_, _%_, _≤_}
 use native.Mathlib.Omega.{arith}
 use borrow.Author.Tests.{eqb-true, leb-true}
 use lib.Dec.{eqb, leb}
 use lib.ListN.{length}
 use Rattle.protocol.specs.Bytes.{within}
-use Rattle.protocol.specs.Table.{decodeTable, tableShape, tableLawful}
+use Rattle.protocol.specs.Table.{tableShape, tableLawful}
 use Rattle.protocol.specs.Held.{Fine, Lawful}
 use Rattle.protocol.proofs.Laws.{both, lawful-bytes, lawful-rules}
 use Rattle.protocol.proofs.Places.{slots-count}
