@@ -1,0 +1,2 @@
+-- Laws of the texts that templates give.
+pub mod Texts
