@@ -1,18 +1,18 @@
 -- Slots of the table's bytes, one after the other, as the code meets them. Assumes nothing.
 use mathlib.Core.Path.{_≡_, refl, sym, ap, _∙_}
-use mathlib.Core.Bool.{Bool, true, false, _&&_, _||_, not}
+use mathlib.Core.Bool.{Bool, true, false, _&&_, not}
 use mathlib.Core.List.{List, [], _∷_}
-use Prim.Native.Nat.{ℕ, zero, suc, _+_, _-_, _*_, _/_, _<_, _≤_}
+use Prim.Native.Nat.{ℕ, zero, suc, _+_, _-_, _*_, _<_, _≤_}
 use native.Mathlib.Nat.{zero-add}
 use native.Mathlib.Numerals.{add-one}
 use native.Mathlib.Omega.{arith}
 use borrow.Author.Tests.{eq-eqb, ne-eqb}
 use lib.Dec.{eqb, leb, ltb}
-use lib.ListN.{length, take, drop, getD, drop-of-length-le, List·getD-eq-default}
+use lib.ListN.{length, take, getD, drop-of-length-le, List·getD-eq-default}
 use lib.Seq.{drop-cons}
 use Rattle.protocol.specs.Bytes.{if, part, num, same}
 use Rattle.protocol.specs.Blocks.{checkRight}
-use Rattle.protocol.specs.Tickets.{aFree, aLogin}
+use Rattle.protocol.specs.Tickets.{aLogin}
 use Rattle.protocol.specs.Records.{Rec, freeRec, decodeRec, recBody, ownRight}
 use Rattle.protocol.specs.Table.{decodeTable, recAt, countKind, serialTaken, sessionRight, parentRight, grantRight}
 use Rattle.protocol.proofs.Places.{slot-read, slots-count}

@@ -8,21 +8,21 @@ use native.Mathlib.Omega.{arith}
 use native.Mathlib.Decide.{decLt, decLe}
 use borrow.Author.Tests.{eq-eqb, eqb-true, leb-true, le-leb}
 use lib.Dec.{eqb, leb, lit≤}
-use lib.ListN.{length, take, drop, getD, length-drop, List·getD-eq-default}
+use lib.ListN.{length, take, drop, getD, List·getD-eq-default}
 use lib.Seq.{take-all, take-take, length-take-le}
 use Rattle.protocol.specs.Bytes.{same, part, num, bytesOf}
 use Rattle.protocol.specs.Blocks.{houseCheck, checkRight, sealed}
 use Rattle.protocol.specs.Tickets.{aFree, aLogin}
 use Rattle.protocol.specs.Records.{Rec, freeRec, recBody, encodeRec, decodeRec, ownRight}
-use Rattle.protocol.specs.Table.{Table, headBody, encodeTable, decodeTable, recAt, countKind, serialTaken, serialsDiffer, sessionRight, parentRight, rulesHold, tableLawful, loginCap, lastTime}
-use Rattle.protocol.proofs.Laws.{both, same-eq, same-refl, recRight, Rules, rules, rules-hold, sized-read, length-body, length-bytes, lawful-bytes, lawful-fits, lawful-clock, lawful-rules}
+use Rattle.protocol.specs.Table.{headBody, decodeTable, countKind, serialTaken, serialsDiffer, sessionRight, parentRight, tableLawful, loginCap, lastTime}
+use Rattle.protocol.proofs.Laws.{both, both5, same-eq, same-refl, recRight, Rules, rules, rules-hold, sized-read, length-body, lawful-bytes, lawful-fits, lawful-clock, lawful-rules}
 use Rattle.protocol.proofs.Notice.{house-below}
 use Rattle.protocol.proofs.Places.{head-bytes, slots-count, lawful-by-blocks, block-lawful}
 use Rattle.protocol.proofs.Kept.{free-right, right-all, right-slot}
 use Rattle.rules.proofs.Bytewise.{one-test, length-part, front-test, field-test, part-bytes}
 use Rattle.rules.proofs.Laws.{Bytes}
 use Rattle.block.proofs.Parts.{part-part}
-use Rattle.judge.specs.Tests.{blockAt, saidAt, fromSlot, aloneAt, slotRight, allFrom, headRight, judged}
+use Rattle.judge.specs.Tests.{blockAt, saidAt, aloneAt, slotRight, allFrom, headRight, judged}
 use Rattle.judge.proofs.Slots.{said-block}
 
 -- A block: its 508 bytes and its check
@@ -84,15 +84,6 @@ alone-slot : (b : List ℕ) (k : ℕ) → aloneAt (suc k) b ≡ alone (decodeTab
 unfolding aloneAt
 alone-slot b k = rw add-one
 
--- the five tests of a slot
-five : (a b c d e : Bool) → a && b && c && d && e ≡ true → (a ≡ true) × (b ≡ true) × (c ≡ true) × (d ≡ true) × (e ≡ true)
-five a b c d e h =
-    let p = both (a && b && c && d) e h in
-    let q = both (a && b && c) d (p .0) in
-    let r = both (a && b) c (q .0) in
-    let s = both a b (r .0) in
-    (s .0, s .1, r .1, q .1, p .1)
-
 module _ (b : List ℕ) (m : ℕ) (h : length b ≡ 512 * m + 512) (few : m ≤ 127) (y : Bytes b) where
   count : length b / 512 - 1 ≡ m
   count = omega arith
@@ -147,7 +138,7 @@ module _ (b : List ℕ) (m : ℕ) (h : length b ≡ 512 * m + 512) (few : m ≤ 
     told : slotRight clock next b (suc k) ≡ true → Told
     unfolding slotRight
     told e =
-        let t = five (ownRight clock next r && same (take 508 (blockAt (suc k) b)) (recBody r)) (sessionRight slots r) (parentRight slots r) (checkRight (blockAt (suc k) b)) (aloneAt (suc k) b) e in
+        let t = both5 (ownRight clock next r && same (take 508 (blockAt (suc k) b)) (recBody r)) (sessionRight slots r) (parentRight slots r) (checkRight (blockAt (suc k) b)) (aloneAt (suc k) b) e in
         let o = both (ownRight clock next r) (same (take 508 (blockAt (suc k) b)) (recBody r)) (t .0) in
         record {
           rule = rw (o .0, t .1, t .2);
@@ -223,8 +214,8 @@ module _ (b : List ℕ) (m : ℕ) (h : length b ≡ 512 * m + 512) (few : m ≤ 
       let all : allFrom (slotRight clock next b) 1 m ≡ true = all-made (slotRight clock next b) 1 m (by-slot e l n z) in
       rw (count, clock-right e l n, w .0, w .1, all) (le-leb (countKind aLogin slots) loginCap (z .logins))
 
-  pub judged-law : judged b ≡ tableLawful b
-  judged-law = one-test (judged b) (tableLawful b) forth back
+  pub tests-law : judged b ≡ tableLawful b
+  tests-law = one-test (judged b) (tableLawful b) forth back
 
 -- What the code knows at its returns
 
@@ -256,7 +247,7 @@ pub table-wrong : (b : List ℕ) (n : ℕ) {good : Bool} → Bytes b → length 
 unfolding judged
 table-wrong b n y h l f e g =
     let p : headRight b ≡ false = sym (head-part b n h l) ∙ sym e ∙ g in
-    sym (rw p) ∙ judged-law b (n - 1) (omega arith) (omega arith) y
+    sym (rw p) ∙ tests-law b (n - 1) (omega arith) (omega arith) y
 
 pub table-right : (b : List ℕ) (n : ℕ) {good k s : Bool} {c x v : ℕ} → Bytes b → length b ≡ 512 * n → 9 ≤ n → n ≤ 128
     → good ≡ leb (num 8 8 (take 512 b)) lastTime && same (take 508 (take 512 b)) (headBody (n - 1) (num 8 8 (take 512 b)) (num 16 4 (take 512 b))) → good ≡ true
@@ -266,4 +257,4 @@ unfolding judged loginCap
 table-right b n y h l f e g c x k s v =
     let p : headRight b ≡ true = sym (head-part b n h l) ∙ sym e ∙ g in
     let m : n - 1 ≡ length b / 512 - 1 = omega arith in
-    rw (k, s, v, c, x, m) (sym (rw p)) ∙ judged-law b (n - 1) (omega arith) (omega arith) y
+    rw (k, s, v, c, x, m) (sym (rw p)) ∙ tests-law b (n - 1) (omega arith) (omega arith) y

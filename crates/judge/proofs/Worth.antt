@@ -1,14 +1,14 @@
 -- What a lawful table is worth to callers: its bytes are fine, and the table that they say keeps the rules. Assumes nothing.
-use mathlib.Core.Path.{_≡_}
-use mathlib.Core.Bool.{true}
+use mathlib.Core.Path.{_≡_, sym, _∙_}
+use mathlib.Core.Bool.{Bool, true}
 use mathlib.Core.List.{List}
-use Prim.Native.Nat.{ℕ, _+_, _*_, _/_, _%_, _-_, _≤_}
+use Prim.Native.Nat.{ℕ, _*_, _/_, _%_, _≤_}
 use native.Mathlib.Omega.{arith}
 use borrow.Author.Tests.{eqb-true, leb-true}
 use lib.Dec.{eqb, leb}
 use lib.ListN.{length}
 use Rattle.protocol.specs.Bytes.{within}
-use Rattle.protocol.specs.Table.{decodeTable, tableShape, tableLawful}
+use Rattle.protocol.specs.Table.{tableShape, tableLawful}
 use Rattle.protocol.specs.Held.{Fine, Lawful}
 use Rattle.protocol.proofs.Laws.{both, lawful-bytes, lawful-rules}
 use Rattle.protocol.proofs.Places.{slots-count}
@@ -44,3 +44,10 @@ lawful-fine b h e =
 
 pub lawful-law : (b : List ℕ) → tableShape (length b) ≡ true → tableLawful b ≡ true → Lawful b
 lawful-law b h e = record { fine = lawful-fine b h e; rules = lawful-rules b e }
+
+-- the same, as a caller knows it that has asked for both
+pub judged-fine : (b : List ℕ) {s r : Bool} → s ≡ tableShape (length b) → s ≡ true → r ≡ tableLawful b → r ≡ true → Fine b
+judged-fine b p h q e = lawful-fine b (sym p ∙ h) (sym q ∙ e)
+
+pub judged-law : (b : List ℕ) {s r : Bool} → s ≡ tableShape (length b) → s ≡ true → r ≡ tableLawful b → r ≡ true → Lawful b
+judged-law b p h q e = lawful-law b (sym p ∙ h) (sym q ∙ e)

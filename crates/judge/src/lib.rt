@@ -9,7 +9,7 @@ ghost use lib.Dec.{eqb};
 ghost use Rattle.protocol.specs.Bytes.{if};
 ghost use Rattle.protocol.specs.Tickets.{aLogin};
 ghost use Rattle.protocol.specs.Records.{freeRec};
-ghost use Rattle.protocol.specs.Table.{decodeTable, recAt, countKind, serialTaken, tableShape, tableLawful, lastTime};
+ghost use Rattle.protocol.specs.Table.{decodeTable, countKind, serialTaken, tableShape, tableLawful, lastTime};
 ghost use Rattle.rules.specs.Tests.{numbersOf};
 ghost use Rattle.judge.specs.Tests.{saidAt, fromSlot, sessionTest, parentTest, hasSerial, aloneAt, slotRight, allFrom};
 
