@@ -5,11 +5,11 @@ use mathlib.Core.List.{List, [], _∷_, _++_, append-assoc, append-nil}
 use Prim.Native.Nat.{ℕ, _≤_}
 use native.Mathlib.Omega.{arith}
 use lib.ListN.{length}
-use Rattle.protocol.specs.Bytes.{ascii, holds, digits}
-use Rattle.protocol.specs.Answers.{ErrorPage, SignedIn, SignedOut, FormPage, RedirectTo, YesNo, pageHead, formText, extended, callbackText, replyText}
+use Rattle.protocol.specs.Bytes.{if, ascii, holds, digits}
+use Rattle.protocol.specs.Answers.{ErrorPage, SignedIn, SignedOut, FormPage, RedirectTo, YesNo, CallbackTo, pageHead, formText, extended, callbackText, replyText}
 use Rattle.protocol.specs.Written.{Room, Wrote}
 use Rattle.protocol.proofs.Sizes.{error, out-page, form, away, call}
-use Rattle.text.proofs.Splice.{wrote-as, room-as}
+use Rattle.text.proofs.Splice.{wrote-as, room-as, room-first, room-next, then}
 use Rattle.template.proofs.Filling.{fits}
 use Rattle.template.specs.Template.{slot, fillIn}
 
@@ -95,16 +95,37 @@ module _ (d lt service : List ℕ) (n : ℕ) where
     pub served-wrote : (e : List ℕ) (to : ℕ) → Wrote d 0 e to (fillIn formServed n lt service []) → Wrote d 0 e to (replyText (FormPage n lt service))
     served-wrote e to w = wrote-as (served-text n lt service z) w
 
--- an address with more behind it
-extended-and : (u more : List ℕ) → holds 63 u ≡ true → u ++ (38 ∷ more) ≡ extended u more
-unfolding extended
-extended-and u more h = rw h
+-- an address that more is put behind
+module _ (d url : List ℕ) (marked : Bool) (m : marked ≡ holds 63 url) where
+  module _ (h : marked ≡ true) where
+    and-text : fillIn (ascii "{&") 0 url [] [] ≡ extended url []
+    unfolding fillIn slot extended
+    and-text = rw (sym m ∙ h)
 
-extended-ask : (u more : List ℕ) → holds 63 u ≡ false → u ++ (63 ∷ more) ≡ extended u more
-unfolding extended
-extended-ask u more h = rw h
+    pub and-room : Room d 0 (extended url []) → Room d 0 (fillIn (ascii "{&") 0 url [] [])
+    and-room r = room-as (sym and-text) r
 
--- a redirect: the service alone, or `&` or `?` and the ticket
+    pub and-wrote : (e : List ℕ) (to : ℕ) → Wrote d 0 e to (fillIn (ascii "{&") 0 url [] []) → Wrote d 0 e to (extended url [])
+    and-wrote e to w = wrote-as and-text w
+
+  module _ (h : marked ≡ false) where
+    ask-text : fillIn (ascii "{?") 0 url [] [] ≡ extended url []
+    unfolding fillIn slot extended
+    ask-text = rw (sym m ∙ h)
+
+    pub ask-room : Room d 0 (extended url []) → Room d 0 (fillIn (ascii "{?") 0 url [] [])
+    ask-room r = room-as (sym ask-text) r
+
+    pub ask-wrote : (e : List ℕ) (to : ℕ) → Wrote d 0 e to (fillIn (ascii "{?") 0 url [] []) → Wrote d 0 e to (extended url [])
+    ask-wrote e to w = wrote-as ask-text w
+
+-- with more behind it
+extended-more : (url more : List ℕ) → extended url [] ++ more ≡ extended url more
+unfolding extended
+extended-more url more =
+    rw (append-nil (if (holds 63 url) (ascii "&") (ascii "?"))) (append-assoc url (if (holds 63 url) (ascii "&") (ascii "?")) more)
+
+-- a redirect: the service alone, or with a ticket
 alone-text : (service ticket : List ℕ) → length ticket ≡ 0 → service ≡ replyText (RedirectTo service ticket)
 unfolding replyText
 alone-text service [] z = refl
@@ -113,67 +134,49 @@ alone-text service (b ∷ t) z = absurd (omega arith)
 pub alone-wrote : (d e service ticket : List ℕ) (to : ℕ) → length ticket ≡ 0 → Wrote d 0 e to service → Wrote d 0 e to (replyText (RedirectTo service ticket))
 alone-wrote d e service ticket to z w = wrote-as (alone-text service ticket z) w
 
-away-text : (service ticket : List ℕ) → (length ticket ≡ 0 → ⊥) → extended service (ascii "ticket=" ++ ticket) ≡ replyText (RedirectTo service ticket)
-unfolding replyText
+away-text : (service ticket : List ℕ) → (length ticket ≡ 0 → ⊥) → extended service [] ++ fillIn (ascii "ticket={") 0 ticket [] [] ≡ replyText (RedirectTo service ticket)
+unfolding replyText fillIn slot
 away-text service [] z = absurd (z refl)
-away-text service (b ∷ t) z = refl
+away-text service (b ∷ t) z = rw (append-nil t) (extended-more service (ascii "ticket=" ++ (b ∷ t)))
 
-and-ticket : (service ticket : List ℕ) → holds 63 service ≡ true → fillIn (ascii "{&ticket=|") 0 service ticket [] ≡ extended service (ascii "ticket=" ++ ticket)
-unfolding fillIn slot
-and-ticket service ticket h = rw (append-nil ticket) (extended-and service (ascii "ticket=" ++ ticket) h)
+module _ (d service ticket : List ℕ) (z : length ticket ≡ 0 → ⊥) where
+  module _ (h : 8192 ≤ length d) (k : length service ≤ 200) (l : length ticket ≤ 64) where
+    away-room : Room d 0 (extended service [] ++ fillIn (ascii "ticket={") 0 ticket [] [])
+    away-room = room-as (sym (away-text service ticket z)) (fits d h (away service ticket k l))
 
-ask-ticket : (service ticket : List ℕ) → holds 63 service ≡ false → fillIn (ascii "{?ticket=|") 0 service ticket [] ≡ extended service (ascii "ticket=" ++ ticket)
-unfolding fillIn slot
-ask-ticket service ticket h = rw (append-nil ticket) (extended-ask service (ascii "ticket=" ++ ticket) h)
+    pub service-room : Room d 0 (extended service [])
+    service-room = room-first d 0 (extended service []) (fillIn (ascii "ticket={") 0 ticket [] []) away-room
 
-module _ (d service ticket : List ℕ) (marked : Bool) (m : marked ≡ holds 63 service) (z : length ticket ≡ 0 → ⊥) where
-  module _ (h : marked ≡ true) where
-    and-ticket-text : fillIn (ascii "{&ticket=|") 0 service ticket [] ≡ replyText (RedirectTo service ticket)
-    and-ticket-text = and-ticket service ticket (sym m ∙ h) ∙ away-text service ticket z
+    pub ticket-room : (e : List ℕ) (at : ℕ) → Wrote d 0 e at (extended service []) → Room e at (fillIn (ascii "ticket={") 0 ticket [] [])
+    ticket-room e at w = room-next d e 0 at (extended service []) (fillIn (ascii "ticket={") 0 ticket [] []) away-room w
 
-    pub and-ticket-room : 8192 ≤ length d → length service ≤ 200 → length ticket ≤ 64 → Room d 0 (fillIn (ascii "{&ticket=|") 0 service ticket [])
-    and-ticket-room b k l = room-as (sym and-ticket-text) (fits d b (away service ticket k l))
-
-    pub and-ticket-wrote : (e : List ℕ) (to : ℕ) → Wrote d 0 e to (fillIn (ascii "{&ticket=|") 0 service ticket []) → Wrote d 0 e to (replyText (RedirectTo service ticket))
-    and-ticket-wrote e to w = wrote-as and-ticket-text w
-
-  module _ (h : marked ≡ false) where
-    ask-ticket-text : fillIn (ascii "{?ticket=|") 0 service ticket [] ≡ replyText (RedirectTo service ticket)
-    ask-ticket-text = ask-ticket service ticket (sym m ∙ h) ∙ away-text service ticket z
-
-    pub ask-ticket-room : 8192 ≤ length d → length service ≤ 200 → length ticket ≤ 64 → Room d 0 (fillIn (ascii "{?ticket=|") 0 service ticket [])
-    ask-ticket-room b k l = room-as (sym ask-ticket-text) (fits d b (away service ticket k l))
-
-    pub ask-ticket-wrote : (e : List ℕ) (to : ℕ) → Wrote d 0 e to (fillIn (ascii "{?ticket=|") 0 service ticket []) → Wrote d 0 e to (replyText (RedirectTo service ticket))
-    ask-ticket-wrote e to w = wrote-as ask-ticket-text w
+  pub away-wrote : (e f : List ℕ) (at to : ℕ) → Wrote d 0 e at (extended service []) → Wrote e at f to (fillIn (ascii "ticket={") 0 ticket [] []) → Wrote d 0 f to (replyText (RedirectTo service ticket))
+  away-wrote e f at to v w = wrote-as (away-text service ticket z) (then v w)
 
 -- a callback
-callback-room : (d url pgt iou : List ℕ) → 8192 ≤ length d → length url ≤ 200 → length pgt ≤ 64 → length iou ≤ 64 → Room d 0 (callbackText url pgt iou)
+grant-text : (url pgt iou : List ℕ) → extended url [] ++ fillIn (ascii "pgtId={&pgtIou=|") 0 pgt iou [] ≡ callbackText url pgt iou
+unfolding fillIn slot callbackText
+grant-text url pgt iou = rw (append-nil iou) (extended-more url (ascii "pgtId=" ++ (pgt ++ (ascii "&pgtIou=" ++ iou))))
+
+module _ (d url pgt iou : List ℕ) where
+  module _ (h : 8192 ≤ length d) (k : length url ≤ 200) (l : length pgt ≤ 64) (m : length iou ≤ 64) where
+    callback-room : Room d 0 (extended url [] ++ fillIn (ascii "pgtId={&pgtIou=|") 0 pgt iou [])
+    unfolding replyText
+    callback-room = room-as (sym (grant-text url pgt iou)) (fits d h (call url pgt iou 0 k l m))
+
+    pub url-room : Room d 0 (extended url [])
+    url-room = room-first d 0 (extended url []) (fillIn (ascii "pgtId={&pgtIou=|") 0 pgt iou []) callback-room
+
+    pub grant-room : (e : List ℕ) (at : ℕ) → Wrote d 0 e at (extended url []) → Room e at (fillIn (ascii "pgtId={&pgtIou=|") 0 pgt iou [])
+    grant-room e at w = room-next d e 0 at (extended url []) (fillIn (ascii "pgtId={&pgtIou=|") 0 pgt iou []) callback-room w
+
+  pub callback-wrote : (e f : List ℕ) (at to : ℕ) → Wrote d 0 e at (extended url []) → Wrote e at f to (fillIn (ascii "pgtId={&pgtIou=|") 0 pgt iou []) → Wrote d 0 f to (callbackText url pgt iou)
+  callback-wrote e f at to v w = wrote-as (grant-text url pgt iou) (then v w)
+
+-- it is the answer, whatever the serial that the result tells
+pub callback-reply : (url pgt iou : List ℕ) (serial : ℕ) → callbackText url pgt iou ≡ replyText (CallbackTo url pgt iou serial)
 unfolding replyText
-callback-room d url pgt iou h k l m = fits d h (call url pgt iou 0 k l m)
-
-module _ (d url pgt iou : List ℕ) (marked : Bool) (m : marked ≡ holds 63 url) where
-  module _ (h : marked ≡ true) where
-    and-grant-text : fillIn (ascii "{&pgtId=|&pgtIou=}") 0 url pgt iou ≡ callbackText url pgt iou
-    unfolding fillIn slot callbackText
-    and-grant-text = rw (append-nil iou) (extended-and url (ascii "pgtId=" ++ (pgt ++ (ascii "&pgtIou=" ++ iou))) (sym m ∙ h))
-
-    pub and-grant-room : 8192 ≤ length d → length url ≤ 200 → length pgt ≤ 64 → length iou ≤ 64 → Room d 0 (fillIn (ascii "{&pgtId=|&pgtIou=}") 0 url pgt iou)
-    and-grant-room b k l n = room-as (sym and-grant-text) (callback-room d url pgt iou b k l n)
-
-    pub and-grant-wrote : (e : List ℕ) (to : ℕ) → Wrote d 0 e to (fillIn (ascii "{&pgtId=|&pgtIou=}") 0 url pgt iou) → Wrote d 0 e to (callbackText url pgt iou)
-    and-grant-wrote e to w = wrote-as and-grant-text w
-
-  module _ (h : marked ≡ false) where
-    ask-grant-text : fillIn (ascii "{?pgtId=|&pgtIou=}") 0 url pgt iou ≡ callbackText url pgt iou
-    unfolding fillIn slot callbackText
-    ask-grant-text = rw (append-nil iou) (extended-ask url (ascii "pgtId=" ++ (pgt ++ (ascii "&pgtIou=" ++ iou))) (sym m ∙ h))
-
-    pub ask-grant-room : 8192 ≤ length d → length url ≤ 200 → length pgt ≤ 64 → length iou ≤ 64 → Room d 0 (fillIn (ascii "{?pgtId=|&pgtIou=}") 0 url pgt iou)
-    ask-grant-room b k l n = room-as (sym ask-grant-text) (callback-room d url pgt iou b k l n)
-
-    pub ask-grant-wrote : (e : List ℕ) (to : ℕ) → Wrote d 0 e to (fillIn (ascii "{?pgtId=|&pgtIou=}") 0 url pgt iou) → Wrote d 0 e to (callbackText url pgt iou)
-    ask-grant-wrote e to w = wrote-as ask-grant-text w
+callback-reply url pgt iou serial = refl
 
 -- `yes` or `no`
 pub yes-wrote : (d e : List ℕ) (to : ℕ) (b : Bool) → b ≡ true → Wrote d 0 e to (ascii "yes\n") → Wrote d 0 e to (replyText (YesNo b))

@@ -1,11 +1,12 @@
 // Bytes out: pages, redirects, `yes` and `no`, and the callback's address. Each is written from the start of the output, the
 // rest is left as it was, and none needs more than the 8,192 bytes that the output has.
 ghost use mathlib.Core.Path.{_≡_};
+ghost use mathlib.Core.List.{[]};
 ghost use Prim.Native.Nat.{_≤_};
 ghost use lib.ListN.{length};
 ghost use Rattle.protocol.specs.Bytes.{holds};
-ghost use Rattle.protocol.specs.Answers.{replyText, callbackText, ErrorPage, SignedIn, SignedOut, FormPage, RedirectTo, YesNo};
-ghost use Rattle.protocol.specs.Written.{Wrote};
+ghost use Rattle.protocol.specs.Answers.{replyText, callbackText, extended, ErrorPage, SignedIn, SignedOut, FormPage, RedirectTo, YesNo};
+ghost use Rattle.protocol.specs.Written.{Room, Wrote};
 
 pub fn put_error_page(out: &mut [u8], status: u32) -> usize
     requires { ⌜ 8192 ≤ length (now out) ⌝ }
@@ -100,6 +101,17 @@ fn has_question_mark(url: &[u8]) -> bool
     false
 }
 
+// An address that more is put behind: `?` after it, or `&` if it has a `?`.
+fn put_marked(out: &mut [u8], url: &[u8]) -> usize
+    requires { ⌜ Room (now out) 0 (extended (now url) []) ⌝ }
+    ensures { λ r. ⌜ Wrote (now (out .entry)) 0 (now (out .exit)) r (extended (now (url .entry)) []) ⌝ }
+{
+    if has_question_mark(url) {
+        return template::put_template(out, 0, b"{&", 0, url, b"", b"");
+    }
+    template::put_template(out, 0, b"{?", 0, url, b"", b"")
+}
+
 // The service alone where the ticket is empty.
 pub fn put_redirect(out: &mut [u8], service: &[u8], ticket: &[u8]) -> usize
     requires { ⌜ 8192 ≤ length (now out) ⌝ }
@@ -110,10 +122,8 @@ pub fn put_redirect(out: &mut [u8], service: &[u8], ticket: &[u8]) -> usize
     if ticket.len() == 0 {
         return text::put_bytes(out, 0, service);
     }
-    if has_question_mark(service) {
-        return template::put_template(out, 0, b"{&ticket=|", 0, service, ticket, b"");
-    }
-    template::put_template(out, 0, b"{?ticket=|", 0, service, ticket, b"")
+    let at = put_marked(out, service);
+    template::put_template(out, at, b"ticket={", 0, ticket, b"", b"")
 }
 
 pub fn put_yes_no(out: &mut [u8], yes: bool) -> usize
@@ -134,8 +144,6 @@ pub fn put_callback(out: &mut [u8], url: &[u8], pgt: &[u8], iou: &[u8]) -> usize
     requires { ⌜ length (now iou) ≤ 64 ⌝ }
     ensures { λ r. ⌜ Wrote (now (out .entry)) 0 (now (out .exit)) r (callbackText (now (url .entry)) (now (pgt .entry)) (now (iou .entry))) ⌝ }
 {
-    if has_question_mark(url) {
-        return template::put_template(out, 0, b"{&pgtId=|&pgtIou=}", 0, url, pgt, iou);
-    }
-    template::put_template(out, 0, b"{?pgtId=|&pgtIou=}", 0, url, pgt, iou)
+    let at = put_marked(out, url);
+    template::put_template(out, at, b"pgtId={&pgtIou=|", 0, pgt, iou, b"")
 }
