@@ -56,9 +56,9 @@ pub fn query_of<'a>(target: &'a [u8]) -> &'a [u8]
 pub fn lookup<'a, 'b>(q: &'a [u8], name: &'b [u8]) -> &'a [u8]
     ensures { λ r. ⌜ now r ≡ rawValue (now (name .entry)) (now (q .entry)) ⌝ }
 {
-    let mut at = 0;
+    let mut place = 0;
     loop {
-        let step = reader::piece_from(q, at);
+        let step = reader::piece_from(q, place);
         let Step::Piece { start, mid, end } = step else {
             return &q[..0];
         };
@@ -68,7 +68,7 @@ pub fn lookup<'a, 'b>(q: &'a [u8], name: &'b [u8]) -> &'a [u8]
             }
             return &q[end..end];
         }
-        at = end;
+        place = end;
     }
 }
 

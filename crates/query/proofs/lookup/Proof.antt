@@ -9,10 +9,10 @@ use Rattle.query.proofs.lookup.Statement.{statement}
 use Rattle.query.proofs.lookup.Tie as tie
 
 abbrev Inv-loop : tie.InvT-loop
-Inv-loop q name at₀ at = rawValue name q ≡ firstNamed name (pieces (drop at q))
+Inv-loop q name place₀ place = rawValue name q ≡ firstNamed name (pieces (drop place q))
 
 abbrev μ-loop : tie.MeasureT-loop
-μ-loop q name at₀ at = length q - at
+μ-loop q name place₀ place = length q - place
 
 loop-holds : tie.Need-loop-holds Inv-loop μ-loop
 unfolding rawValue
