@@ -1,13 +1,13 @@
 -- Fields read and written in place, over any width. Assumes nothing.
-use mathlib.Core.Path.{_≡_, refl, sym, ap, _∙_}
-use mathlib.Core.List.{List, [], _∷_, _++_, append-assoc, append-nil}
-use Prim.Native.Nat.{ℕ, zero, suc, _+_, _-_, _*_, _/_, _%_, _^_, _<_, _≤_}
+use mathlib.Core.Path.{_≡_, refl, sym, _∙_}
+use mathlib.Core.List.{List, _++_, append-assoc, append-nil}
+use Prim.Native.Nat.{ℕ, suc, _+_, _-_, _*_, _/_, _%_, _^_, _<_, _≤_}
 use native.Mathlib.Nat.{pow-suc, lt-of-lt-of-le, pow-le-pow-right}
 use native.Mathlib.Numerals.{add-one}
 use native.Mathlib.Omega.{arith}
 use lib.Dec.{lit<}
-use lib.ListN.{length, take, drop, set, getD, length-append, length-drop, drop-of-length-le}
-use lib.Seq.{drop-cons, drop-drop, drop-append-add, drop-at, take-at, sets, sets-eq, length-take-le}
+use lib.ListN.{length, take, drop, set, getD, drop-of-length-le}
+use lib.Seq.{drop-cons, drop-at, take-at, sets, sets-eq, length-take-le}
 use Rattle.protocol.specs.Bytes.{leOf, bytesOf, part, num, zeros, padTo, spliced}
 use Rattle.protocol.specs.Blocks.{houseCheck, sealed}
 use Rattle.protocol.proofs.Laws.{le-bytes, length-bytes}

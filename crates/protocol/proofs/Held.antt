@@ -11,8 +11,10 @@ use Rattle.protocol.specs.Records.{Rec, encodeRec, decodeRec}
 use Rattle.protocol.specs.Table.{Table, tableOf, headBody, encodeTable, decodeTable, recAt, slotWhere, lastTime}
 use Rattle.protocol.specs.Steps.{put, slotFor, roomFor}
 use Rattle.protocol.specs.Held.{Fits, AllFit, Fine, Holds, In, Lawful}
-use Rattle.protocol.proofs.Laws.{rules, table-back, length-table, length-rec}
+use Rattle.protocol.proofs.Laws.{recRight, rules, rules-hold, table-back, length-table, length-rec}
 use Rattle.protocol.proofs.Places.{slot-read, slot-bytes, put-bytes, head-put, slots-count}
+use Rattle.protocol.proofs.Kept.{SessionView, ParentView, unnamed, named, orphan, of-session, of-grant, session-view, parent-view, recs3, right-slot}
+use Rattle.protocol.proofs.StepSound.{slot-within}
 use Rattle.protocol.proofs.Added.{slot-chosen, room-one}
 use Rattle.protocol.proofs.Sound.{Sound, fit-put, fit-slot, length-put}
 
@@ -42,6 +44,9 @@ pub sound-held : (b : List ℕ) → Lawful b → Sound (decodeTable b)
 sound-held b l =
     let f = l .fine in
     record { rules = rules (decodeTable b) (l .rules); next = f .next; fit = f .fit; few = f .few }
+
+pub holds-lawful : (b : List ℕ) (t : Table) → Holds b t → Sound t → Lawful b
+holds-lawful b t h s = record { fine = h .fine; rules = rw (h .is) (rules-hold t (s .rules)) }
 
 -- one edit after another: the second is of the table that the first left
 pub then : (f : Table → Table) (b b′ : List ℕ) (t : Table) → Holds b t → Holds b′ (f (decodeTable b)) → Holds b′ (f t)
@@ -89,6 +94,39 @@ pub room-in : (b : List ℕ) (k : ℕ) → roomFor 1 (decodeTable b) ≡ true �
 room-in b k h e =
     let r = room-one (decodeTable b) h in
     slot-in b k (omega (arith, r .some)) (omega (arith, r .within))
+
+-- the slots that a record of a sound table names: a session where its kind has one, and a parent where it has one
+pub record-in : (b : List ℕ) (k : ℕ) → 1 ≤ recAt k (decodeTable b .slots) .kind → In k b
+record-in b zero h = absurd (omega arith)
+record-in b (suc k) h = slot-in b (suc k) (omega arith) (slot-within (decodeTable b .slots) (suc k) (λ e. omega arith))
+
+module _ (b : List ℕ) (k : ℕ) (s : Sound (decodeTable b)) where
+  abbrev slots : List Rec
+  slots = decodeTable b .slots
+
+  abbrev said : Rec
+  said = recAt k slots
+
+  right : recRight (decodeTable b .clock) (decodeTable b .next) slots said ≡ true
+  right = right-slot (decodeTable b .clock) (decodeTable b .next) slots (s .rules .records) k
+
+  views : SessionView slots said
+  views = session-view slots said (recs3 (decodeTable b .clock) (decodeTable b .next) slots said right .1)
+
+  pub session-in : 3 ≤ recAt k (decodeTable b .slots) .kind → In (recAt k (decodeTable b .slots) .session) b
+  session-in h = named-in views
+    where
+      named-in : SessionView slots said → In (said .session) b
+      named-in (unnamed l e) = absurd (omega arith)
+      named-in (named g e l x) = record-in b (said .session) (omega arith)
+
+  pub parent-in : 1 ≤ recAt k (decodeTable b .slots) .parent → In (recAt k (decodeTable b .slots) .parent) b
+  parent-in h = of (parent-view slots said (recs3 (decodeTable b .clock) (decodeTable b .next) slots said right .2))
+    where
+      of : ParentView slots said → In (said .parent) b
+      of (orphan e) = absurd (omega arith)
+      of (of-session g e) = rw e (session-in (omega arith))
+      of (of-grant l e g) = record-in b (said .parent) (omega arith)
 
 -- Edits
 

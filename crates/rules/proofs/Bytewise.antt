@@ -6,11 +6,11 @@ use Prim.Native.Nat.{ℕ, zero, suc, _+_, _-_, _*_, _/_, _%_, _^_, _<_, _≤_}
 use native.Mathlib.Omega.{arith}
 use native.Mathlib.Decide.{decLt}
 use borrow.Author.Tests.{eqb-true, eq-eqb, ne-eqb, le-leb, lt-leb}
-use lib.Dec.{eqb, leb, lit<}
-use lib.ListN.{length, take, drop, getD, length-drop, List·getD-eq-default}
+use lib.Dec.{eqb, lit<}
+use lib.ListN.{length, drop, getD, length-drop, List·getD-eq-default}
 use lib.Seq.{take-add, drop-drop, drop-cons, length-take-le, getD-take, getD-drop}
 use Rattle.protocol.specs.Bytes.{same, within, allWithin, zeros, padTo, part, num, leOf, bytesOf}
-use Rattle.protocol.proofs.Laws.{both, same-eq, same-refl, same-append, le-bytes, pad-full}
+use Rattle.protocol.proofs.Laws.{same-eq, same-refl, same-append, le-bytes, pad-full}
 
 -- two tests that follow from each other are one
 pub one-test : (a b : Bool) → (a ≡ true → b ≡ true) → (b ≡ true → a ≡ true) → a ≡ b
@@ -53,7 +53,7 @@ spelt (x ∷ xs) h =
     rw (a, d, spelt xs (λ i. h (suc i)))
 
 module _ (b : List ℕ) (y : (i : ℕ) → getD b i 0 < 256) where
-  part-bytes : (at k : ℕ) → at + k ≤ length b → (i : ℕ) → getD (part at k b) i 0 < 256
+  pub part-bytes : (at k : ℕ) → at + k ≤ length b → (i : ℕ) → getD (part at k b) i 0 < 256
   part-bytes at k g i = by-place (decLt i k)
     where
       by-place : Dec (i < k) → getD (part at k b) i 0 < 256

@@ -1,17 +1,17 @@
 -- What the code computes of a block is what protocol says of it. Assumes nothing.
 use mathlib.Core.Path.{_≡_, refl, sym, ap, _∙_}
 use mathlib.Core.Bool.{Bool, true, false, _&&_}
-use mathlib.Core.List.{List, [], _∷_, _++_}
-use Prim.Native.Nat.{ℕ, zero, suc, _+_, _-_, _*_, _<_, _≤_}
+use mathlib.Core.List.{List, [], _∷_}
+use Prim.Native.Nat.{ℕ, zero, suc, _+_, _-_, _<_, _≤_}
 use native.Mathlib.Omega.{arith}
 use native.Mathlib.Decide.{decLe}
 use borrow.Author.Tests.{le-leb, lt-leb, leb-true}
-use lib.Dec.{eqb, leb, ltb, lit≤, lit<}
+use lib.Dec.{eqb, leb, ltb, lit≤}
 use lib.ListN.{length, take, drop, getD, length-take, length-drop}
-use lib.Seq.{take-add, take-all, drop-at, length-take-le, drop-drop}
+use lib.Seq.{take-add, drop-at, drop-drop}
 use Rattle.protocol.specs.Bytes.{if, ascii, same, within, allWithin, zeros, padTo, part, num, bytesOf}
-use Rattle.protocol.specs.Tickets.{aFree, aWaiting, lifetime, secretLength, markMost, depthLeast, depthMost, textLeast, textMost}
-use Rattle.protocol.specs.Records.{Rec, decodeRec, recBody, fieldsRight, serialRight, expiryRight, ownRight, textRight as recTextRight}
+use Rattle.protocol.specs.Tickets.{aWaiting, lifetime, secretLength, markMost, depthLeast, depthMost, textLeast, textMost}
+use Rattle.protocol.specs.Records.{decodeRec, recBody, fieldsRight, serialRight, expiryRight, ownRight, textRight as recTextRight}
 use Rattle.protocol.specs.Table.{headBody, lastTime}
 use Rattle.protocol.proofs.Laws.{both, length-bytes, length-pad, text-most}
 use Rattle.rules.specs.declared.Numbers.{Numbers}
@@ -27,16 +27,6 @@ secret-most (suc (suc (suc (suc zero)))) = lit≤ tt
 secret-most (suc (suc (suc (suc (suc zero))))) = lit≤ tt
 secret-most (suc (suc (suc (suc (suc (suc zero)))))) = lit≤ tt
 secret-most (suc (suc (suc (suc (suc (suc (suc k))))))) = lit≤ tt
-
-pub lifetime-most : (k : ℕ) → lifetime k ≤ 28800
-lifetime-most zero = lit≤ tt
-lifetime-most (suc zero) = lit≤ tt
-lifetime-most (suc (suc zero)) = lit≤ tt
-lifetime-most (suc (suc (suc zero))) = lit≤ tt
-lifetime-most (suc (suc (suc (suc zero)))) = lit≤ tt
-lifetime-most (suc (suc (suc (suc (suc zero))))) = lit≤ tt
-lifetime-most (suc (suc (suc (suc (suc (suc zero)))))) = lit≤ tt
-lifetime-most (suc (suc (suc (suc (suc (suc (suc k))))))) = lit≤ tt
 
 -- what a lent slice holds
 pub record Bytes (b : List ℕ) : Type 0 where
@@ -141,11 +131,7 @@ pub limits-low : (f : Numbers) (n : ℕ) {m dl dm tl tm : ℕ} → f .kind ≤ 6
 unfolding limitsRight
 limits-low f n h a b c d e = rw (le-leb (f .kind) 6 h, a, b, c, d, e)
 
--- within the limits there is such a kind, and the text is short
-pub limits-kind : (f : Numbers) (n : ℕ) {good : Bool} → good ≡ limitsRight f n → good ≡ true → f .kind ≤ 6
-unfolding limitsRight
-limits-kind f n e g = leb-true (f .kind) 6 (both (leb (f .kind) 6) _ (sym e ∙ g) .0)
-
+-- within the limits the text is short
 pub limits-short : (f : Numbers) (n : ℕ) {good : Bool} → good ≡ limitsRight f n → good ≡ true → n ≤ 200
 unfolding limitsRight
 limits-short f n e g =

@@ -1,12 +1,12 @@
 // The rules that one block of the ticket table keeps by itself: the header, and a record. Each answer is protocol's own
 // test of the record that the block says, and whether the 508 bytes are that record's.
 ghost use mathlib.Core.Path.{_≡_};
-ghost use mathlib.Core.Bool.{Bool, _&&_};
-ghost use Prim.Native.Nat.{_+_, _-_, _≤_, _<_};
+ghost use mathlib.Core.Bool.{_&&_};
+ghost use Prim.Native.Nat.{_+_, _≤_, _<_};
 ghost use lib.ListN.{length, take};
 ghost use lib.Dec.{leb};
 ghost use Rattle.protocol.specs.Bytes.{if, same, num};
-ghost use Rattle.protocol.specs.Tickets.{lifetime, secretLength, markMost, depthLeast, depthMost, textLeast, textMost};
+ghost use Rattle.protocol.specs.Tickets.{markMost, depthLeast, depthMost, textLeast, textMost};
 ghost use Rattle.protocol.specs.Records.{decodeRec, recBody, serialRight, ownRight};
 ghost use Rattle.protocol.specs.Table.{headBody, lastTime};
 ghost use Rattle.rules.specs.Tests.{numbersOf, limitsRight, lifeRight, secretsRight, textRight, gapsZero};
@@ -29,7 +29,7 @@ pub fn pick(which: bool, a: bool, b: bool) -> bool
     if which { a } else { b }
 }
 
-// ---- what belongs to a kind, by its number
+// ---- what a kind's record may say, by the kind's number
 
 fn mark_most(kind: u8) -> u8
     requires { ⌜ kind ≤ 6 ⌝ }
@@ -71,22 +71,6 @@ fn text_most(kind: u8) -> u16
     row[kind as usize]
 }
 
-fn lifetime_of(kind: u8) -> u64
-    requires { ⌜ kind ≤ 6 ⌝ }
-    ensures { λ r. ⌜ r ≡ lifetime kind ⌝ }
-{
-    let row = [0u64, 600, 28800, 300, 300, 60, 28800];
-    row[kind as usize]
-}
-
-fn secret_length(kind: u8) -> usize
-    requires { ⌜ kind ≤ 6 ⌝ }
-    ensures { λ r. ⌜ r ≡ secretLength kind ⌝ }
-{
-    let row = [0usize, 9, 16, 9, 9, 16, 16];
-    row[kind as usize]
-}
-
 // ---- a record
 
 pub fn numbers_of(block: &[u8]) -> Numbers
@@ -125,10 +109,10 @@ fn serial_right(next: u32, serial: u32) -> bool
 
 // A free record has neither serial nor expiry, another's are right.
 fn life_right(f: Numbers, clock: u64, next: u32) -> bool
-    requires { ⌜ (f .kind ≤ 6) × (clock ≤ lastTime) ⌝ }
+    requires { ⌜ clock ≤ lastTime ⌝ }
     ensures { λ r. ⌜ r ≡ lifeRight clock next f ⌝ }
 {
-    let held = (clock < f.expiry) & (f.expiry <= clock + lifetime_of(f.kind));
+    let held = (clock < f.expiry) & (f.expiry <= clock + ticket::lifetime_of(f.kind));
     pick(
         f.kind == 0,
         (f.serial == 0) & (f.expiry == 0),
@@ -138,10 +122,10 @@ fn life_right(f: Numbers, clock: u64, next: u32) -> bool
 
 // The rest of a short secret is zero, and so is the IOU secret of any kind but 5.
 fn secrets_right(block: &[u8], kind: u8) -> bool
-    requires { ⌜ (length (now block) ≡ 512) × (kind ≤ 6) ⌝ }
+    requires { ⌜ length (now block) ≡ 512 ⌝ }
     ensures { λ r. ⌜ r ≡ secretsRight kind (now (block .entry)) ⌝ }
 {
-    let from = 24 + secret_length(kind);
+    let from = 24 + ticket::secret_length(kind);
     let rest = block::all_within(&block[from..40], 0, 0);
     rest & pick(kind == 5, true, block::all_within(&block[256..272], 0, 0))
 }

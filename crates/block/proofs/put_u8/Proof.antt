@@ -1,6 +1,5 @@
 -- One store is a text of one byte written.
 use mathlib.Core.List.{[], _∷_}
-use native.Mathlib.Omega.{arith}
 use Rattle.block.proofs.Laws.{sets-spliced}
 use borrow.Author.Needs.{needs}
 use Rattle.block.proofs.put_u8.Statement.{statement}

@@ -1,5 +1,6 @@
 -- By the definition.
-use Rattle.rules.proofs.Laws.{lifetime-most, life-right}
+use Rattle.protocol.proofs.Sound.{lifetime-most}
+use Rattle.rules.proofs.Laws.{life-right}
 use native.Mathlib.Omega.{arith}
 use borrow.Author.Needs.{needs}
 use Rattle.rules.proofs.life_right.Statement.{statement}

@@ -1,5 +1,5 @@
 -- Limits first; within them the bytes decide.
-use Rattle.rules.proofs.Laws.{Bytes, limits-kind, limits-short, record-wrong, record-right}
+use Rattle.rules.proofs.Laws.{Bytes, limits-short, record-wrong, record-right}
 use borrow.Author.Needs.{needs}
 use Rattle.rules.proofs.record_right.Statement.{statement}
 use Rattle.rules.proofs.record_right.Tie as tie
@@ -8,14 +8,8 @@ use Rattle.rules.proofs.record_right.Tie as tie
 bytes : (c : tie.After-shared-slice-known) → Bytes (c .before .args .block .now)
 bytes c = record { each = λ i. c .shared-slice-known .given i .fits }
 
-secrets-right-requires : tie.Need-secrets-right-requires
-secrets-right-requires c κs = (search needs, search limits-kind)
-
 text-right-requires : tie.Need-text-right-requires
 text-right-requires c κs = (search needs, search limits-short)
-
-life-right-requires : tie.Need-life-right-requires
-life-right-requires c κs = (search limits-kind, search needs)
 
 returns : tie.Need-returns
 returns c = search (record-right, bytes)
@@ -30,10 +24,10 @@ record-right-spec =
     (λ c κs. search needs)
     (λ c κs. search needs)
     (λ c κs. search needs)
-    secrets-right-requires
+    (λ c κs. search needs)
     (λ c. search needs)
     text-right-requires
     (λ c κs. search needs)
-    life-right-requires
+    (λ c κs. search needs)
     returns
     returns-2)

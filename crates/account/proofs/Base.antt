@@ -1,0 +1,113 @@
+-- Tests, choices, sums over lists, and what a ticket's text tells. Assumes nothing.
+use mathlib.Core.Path.{_≡_, refl, sym, ap, ap₂, _∙_, subst}
+use mathlib.Core.Bool.{Bool, true, false, not, _&&_, _||_}
+use mathlib.Core.List.{List, [], _∷_, _++_, map}
+use Prim.Native.Nat.{ℕ, zero, suc, _+_, _*_, _^_, _≤_, _<_}
+use native.Mathlib.Omega.{arith}
+use native.Mathlib.Nat.{not-suc-le-zero, le-of-suc-le-suc}
+use lib.Dec.{eqb, leb, ltb, lit<}
+use lib.ListN.{length, getD, set, take}
+use Rattle.protocol.specs.Bytes.{if, same, ascii, upTo, past, decimal, hex}
+use Rattle.protocol.specs.Tickets.{ticketText, secretLength}
+use Rattle.protocol.proofs.Laws.{same-eq}
+use Rattle.protocol.proofs.Names.{readDecimal, digits-read, digits-within, upTo-digits}
+
+-- the two cases of a test, with the equation
+pub data Case (b : Bool) : Type 0 where
+  is : b ≡ true → Case b
+  isnt : b ≡ false → Case b
+
+pub case : (b : Bool) → Case b
+case true = is refl
+case false = isnt refl
+
+pub clash : {b : Bool} → b ≡ true → b ≡ false → ⊥
+clash {b} t f = go b t f
+  where
+    go : (b : Bool) → b ≡ true → b ≡ false → ⊥
+    go true t f = let z : _≡_ {A = ℕ} 0 1 = cc in omega arith
+    go false t f = let z : _≡_ {A = ℕ} 0 1 = cc in omega arith
+
+-- a choice keeps what both sides keep
+pub fork : {A : Type 0} (P : A → Type 0) (b : Bool) {x y : A} → (b ≡ true → P x) → (b ≡ false → P y) → P (if b x y)
+fork P true f g = f refl
+fork P false f g = g refl
+
+-- two tests that pass together are one
+pub one-test : (a b : Bool) → (a ≡ true → b ≡ true) → (b ≡ true → a ≡ true) → a ≡ b
+one-test true true f g = refl
+one-test true false f g = sym (f refl)
+one-test false true f g = g refl
+one-test false false f g = refl
+
+pub untrue : (b : Bool) → (b ≡ true → ⊥) → b ≡ false
+untrue true f = absurd (f refl)
+untrue false f = refl
+
+pub and-yes : (b : Bool) → (b && true) ≡ b
+and-yes true = refl
+and-yes false = refl
+
+pub and-not : (b : Bool) → (b && false) ≡ false
+and-not true = refl
+and-not false = refl
+
+pub or-left : (a b : Bool) → a ≡ true → (a || b) ≡ true
+or-left true b e = refl
+or-left false b e = absurd (clash {b = false} e refl)
+
+pub or-right : (a b : Bool) → b ≡ true → (a || b) ≡ true
+or-right true b e = refl
+or-right false b e = e
+
+-- two texts that are the same pass for each other
+pub same-sym : (a b : List ℕ) → same a b ≡ same b a
+unfolding same
+same-sym [] [] = refl
+same-sym [] (y ∷ b) = refl
+same-sym (x ∷ a) [] = refl
+same-sym (x ∷ a) (y ∷ b) = ap₂ _&&_ (eqb-sym x y) (same-sym a b)
+  where
+    eqb-sym : (x y : ℕ) → eqb x y ≡ eqb y x
+    eqb-sym x y =
+        one-test (eqb x y) (eqb y x)
+          (λ e. borrow.Author.Tests.eq-eqb y x (sym (borrow.Author.Tests.eqb-true x y e)))
+          (λ e. borrow.Author.Tests.eq-eqb x y (sym (borrow.Author.Tests.eqb-true y x e)))
+
+-- a number that counts where a test holds, and sums
+abbrev pub when : Bool → ℕ → ℕ
+when true n = n
+when false n = 0
+
+abbrev pub sum : List ℕ → ℕ
+sum [] = 0
+sum (x ∷ xs) = x + sum xs
+
+pub sum-set {ℓ} : {A : Type ℓ} (d : A) (f : A → ℕ) (l : List A) (i : ℕ) (a : A) → i < length l → sum (map f (set l i a)) + f (getD l i d) ≡ sum (map f l) + f a
+sum-set d f [] i a h = absurd (not-suc-le-zero h)
+sum-set d f (x ∷ xs) zero a h = omega arith
+sum-set d f (x ∷ xs) (suc i) a h = omega (arith, sum-set d f xs i a (le-of-suc-le-suc h))
+
+-- the serial that a ticket's text tells, whatever its kind: the digits between the first two `-`
+unfoldable pub serialTold : List ℕ → ℕ
+serialTold text = readDecimal 0 (upTo 45 (past 45 text))
+
+past-prefix : (k s : ℕ) (x : List ℕ) → 1 ≤ k → k ≤ 6 → past 45 (ticketText k s x) ≡ decimal s ++ (45 ∷ hex (take (secretLength k) x))
+unfolding ticketText past
+past-prefix zero s x l h = absurd (omega arith)
+past-prefix (suc zero) s x l h = refl
+past-prefix (suc (suc zero)) s x l h = refl
+past-prefix (suc (suc (suc zero))) s x l h = refl
+past-prefix (suc (suc (suc (suc zero)))) s x l h = refl
+past-prefix (suc (suc (suc (suc (suc zero))))) s x l h = refl
+past-prefix (suc (suc (suc (suc (suc (suc zero)))))) s x l h = refl
+past-prefix (suc (suc (suc (suc (suc (suc (suc k))))))) s x l h = absurd (omega arith)
+
+pub serial-told : (k s : ℕ) (x : List ℕ) → 1 ≤ k → k ≤ 6 → s < 4294967296 → serialTold (ticketText k s x) ≡ s
+unfolding serialTold
+serial-told k s x l h b =
+    let m : 4294967296 < 10 ^ 20 = lit< tt in
+    rw (past-prefix k s x l h, upTo-digits (decimal s) (hex (take (secretLength k) x)) (digits-within 20 s)) (digits-read 20 s (omega arith))
+
+pub name-serial : (k k′ s s′ : ℕ) (x x′ : List ℕ) → 1 ≤ k → k ≤ 6 → 1 ≤ k′ → k′ ≤ 6 → s < 4294967296 → s′ < 4294967296 → ticketText k s x ≡ ticketText k′ s′ x′ → s ≡ s′
+name-serial k k′ s s′ x x′ l h l′ h′ b b′ e = sym (serial-told k s x l h b) ∙ ap serialTold e ∙ serial-told k′ s′ x′ l′ h′ b′

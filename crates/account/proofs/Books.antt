@@ -1,0 +1,281 @@
+-- The notebook's own books: tickets issued and accepted, and each ticket's one right to a success answer. No table here. Assumes nothing.
+use mathlib.Core.Path.{_≡_, refl, sym, ap, ap₂, _∙_, subst}
+use mathlib.Core.Logic.{_⊎_, inl, inr, _≢_}
+use mathlib.Core.Bool.{Bool, true, false, not, _&&_, _||_}
+use mathlib.Core.List.{List, [], _∷_, _++_, map, List·Memᴰ, List·Memᴰ·cases-cons, List·Memᴰ·not-nil, List·Memᴰ·head, List·Memᴰ·tail, Memᴰ·map, Memᴰ·of-map}
+use Prim.Native.Nat.{ℕ, zero, suc, _+_, _≤_, _<_}
+use native.Mathlib.Omega.{arith}
+use borrow.Author.Tests.{eqb-true}
+use lib.Dec.{eqb}
+use Rattle.protocol.specs.Bytes.{if, same}
+use Rattle.protocol.specs.Tickets.{aWaiting}
+use Rattle.protocol.proofs.Laws.{both, same-eq, same-refl}
+use Rattle.account.specs.History.{Text}
+use Rattle.account.specs.Notebook.{Fate, held, accepted, burnt, ended, expired, spent, Line, isHeld, close, closeLine, raise, raiseLine, isTicket, isTicketLine, isWaitingLine, tally, isAccepted, isBurnt, isEnded, isExpired}
+use Rattle.account.proofs.Base.{Case, is, isnt, case, clash, untrue, when, sum}
+use Rattle.account.proofs.Sim.{heft, total}
+use Rattle.account.proofs.Edits.{close-name}
+
+-- a ticket's right to one success: held, or handed on to its waiting grant
+abbrev pub claim : Text → Line → ℕ
+claim k e = when (isTicket (e .kind) && same (e .name) k) 1 + when (eqb (e .kind) aWaiting && same (e .origin) k) 1
+
+-- each right is held, owed just now (c) or used (wins), in all at most once; and there is none to a text that no line has
+pub record Owing (book : List Line) (wins c : Text → ℕ) : Type 0 where
+  pub most : (k : Text) → total (claim k) book + wins k + c k ≤ 1
+  pub far : (k : Text) → ((e : Line) → List·Memᴰ e book → e .name ≢ k) → total (claim k) book + wins k + c k ≡ 0
+
+abbrev pub nil : Text → ℕ
+nil k = 0
+
+abbrev pub just : Text → Text → ℕ
+just m k = when (same m k) 1
+
+total-less : (f : Line → ℕ) (g : Line → Line) → ((e : Line) → heft f (g e) ≤ heft f e) → (l : List Line) → total f (map g l) ≤ total f l
+total-less f g h [] = omega arith
+total-less f g h (e ∷ es) = omega (arith, h e, total-less f g h es)
+
+total-pays : (f : Line → ℕ) (g : Line → Line) (c : ℕ) → ((e : Line) → heft f (g e) ≤ heft f e) → (x : Line) → heft f (g x) + c ≤ heft f x → (l : List Line) → List·Memᴰ x l
+    → total f (map g l) + c ≤ total f l
+total-pays f g c h x hx [] m = absurd (List·Memᴰ·not-nil m)
+total-pays f g c h x hx (e ∷ es) m = go (List·Memᴰ·cases-cons m) (total-pays f g c h x hx es)
+  where
+    go : (x ≡ e) ⊎ List·Memᴰ x es → (List·Memᴰ x es → total f (map g es) + c ≤ total f es) → total f (map g (e ∷ es)) + c ≤ total f (e ∷ es)
+    go (inl q) ih = omega (arith, rw q at hx, total-less f g h es)
+    go (inr m) ih = omega (arith, h e, ih m)
+
+-- the lines go through g; what x gives up is owed
+pub pay : (book : List Line) (wins : Text → ℕ) (g : Line → Line) (c : Text → ℕ) → ((k : Text) (e : Line) → heft (claim k) (g e) ≤ heft (claim k) e) → ((e : Line) → g e .name ≡ e .name)
+    → (x : Line) → List·Memᴰ x book → ((k : Text) → heft (claim k) (g x) + c k ≤ heft (claim k) x) → Owing book wins nil → Owing (map g book) wins c
+pay book wins g c less names x m hx o =
+    record {
+      most = λ k. omega (arith, total-pays (claim k) g (c k) (less k) x (hx k) book m, o .most k);
+      far = λ k h.
+        let z = o .far k (λ e me. rw (names e) at (h (g e) (Memᴰ·map g me))) in
+        omega (arith, total-pays (claim k) g (c k) (less k) x (hx k) book m);
+    }
+
+pub shrink : (book : List Line) (wins : Text → ℕ) (g : Line → Line) → ((k : Text) (e : Line) → heft (claim k) (g e) ≤ heft (claim k) e) → ((e : Line) → g e .name ≡ e .name)
+    → Owing book wins nil → Owing (map g book) wins nil
+shrink book wins g less names o =
+    record {
+      most = λ k. omega (arith, total-less (claim k) g (less k) book, o .most k);
+      far = λ k h.
+        let z = o .far k (λ e me. rw (names e) at (h (g e) (Memᴰ·map g me))) in
+        omega (arith, total-less (claim k) g (less k) book);
+    }
+
+-- what is owed is paid by a success answer
+pub pay-win : (book : List Line) (wins : Text → ℕ) (c : Text → ℕ) → Owing book wins c → Owing book (λ (k : Text). c k + wins k) nil
+pay-win book wins c o = record { most = λ k. omega (arith, o .most k); far = λ k h. let z = o .far k h in omega arith }
+
+-- or handed on to a new line; and a new ticket's right is its own
+pub pay-enter : (book : List Line) (wins c : Text → ℕ) (x : Line) → ((e : Line) → List·Memᴰ e book → e .name ≢ x .name) → ((k : Text) → heft (claim k) x ≤ c k + just (x .name) k)
+    → Owing book wins c → Owing (x ∷ book) wins nil
+pay-enter book wins c x new hx o = record { most = λ k. go k (case (same (x .name) k)); far = far }
+  where
+    go : (k : Text) → Case (same (x .name) k) → total (claim k) (x ∷ book) + wins k + 0 ≤ 1
+    go k (is e) =
+        let z = o .far (x .name) new in
+        let z′ : total (claim k) book + wins k + c k ≡ 0 = rw (same-eq (x .name) k e) at z in
+        let w : just (x .name) k ≡ 1 = rw e in
+        omega (arith, hx k)
+    go k (isnt ne) =
+        let w : just (x .name) k ≡ 0 = rw ne in
+        omega (arith, hx k, o .most k)
+    far : (k : Text) → ((e : Line) → List·Memᴰ e (x ∷ book) → e .name ≢ k) → total (claim k) (x ∷ book) + wins k + 0 ≡ 0
+    far k h =
+        let z = o .far k (λ e m. h e (List·Memᴰ·tail m)) in
+        let w : just (x .name) k ≡ 0 = rw (untrue (same (x .name) k) (λ t. h x (List·Memᴰ·head refl) (same-eq (x .name) k t))) in
+        omega (arith, hx k)
+
+-- the same rights under another count of answers
+pub re-wins : (book : List Line) (wins wins′ : Text → ℕ) → ((k : Text) → wins′ k ≡ wins k) → Owing book wins nil → Owing book wins′ nil
+re-wins book wins wins′ same-wins o =
+    record { most = λ k. omega (arith, same-wins k, o .most k); far = λ k h. let z = o .far k h in omega (arith, same-wins k) }
+
+-- What the edits do to a line's claim
+
+pub close-less : (F : Fate) (q : Line → Bool) → isHeld F ≡ false → (k : Text) (e : Line) → heft (claim k) (closeLine F q e) ≤ heft (claim k) e
+close-less F q hF k e = go (case (isHeld (e .fate) && q e))
+  where
+    go : Case (isHeld (e .fate) && q e) → heft (claim k) (closeLine F q e) ≤ heft (claim k) e
+    go (is z) = rw (z, hF) (omega arith)
+    go (isnt z) = rw z (omega arith)
+
+pub close-pays : (F : Fate) (q : Line → Bool) → isHeld F ≡ false → (x : Line) → isHeld (x .fate) ≡ true → q x ≡ true → isTicket (x .kind) ≡ true → (k : Text)
+    → heft (claim k) (closeLine F q x) + just (x .name) k ≤ heft (claim k) x
+close-pays F q hF x h z t k = rw (h, z, hF, t) (omega arith)
+
+pub wait-pays : (F : Fate) (q : Line → Bool) → isHeld F ≡ false → (x : Line) → isHeld (x .fate) ≡ true → q x ≡ true → eqb (x .kind) aWaiting ≡ true → (k : Text)
+    → heft (claim k) (closeLine F q x) + just (x .origin) k ≤ heft (claim k) x
+wait-pays F q hF x h z t k = rw (h, z, hF, t) (omega arith)
+
+pub raise-less : (q : Line → Bool) (k : Text) (e : Line) → heft (claim k) (raiseLine q e) ≤ heft (claim k) e
+raise-less q k e = go (case (isHeld (e .fate) && q e)) (case (isHeld (e .fate)))
+  where
+    go : Case (isHeld (e .fate) && q e) → Case (isHeld (e .fate)) → heft (claim k) (raiseLine q e) ≤ heft (claim k) e
+    go (is z) (is h) = rw (z, h) (omega arith)
+    go (is z) (isnt h) = rw (z, h) (omega arith)
+    go (isnt z) c = rw z (omega arith)
+
+pub raise-pays : (q : Line → Bool) (x : Line) → isHeld (x .fate) ≡ true → q x ≡ true → eqb (x .kind) aWaiting ≡ true → (k : Text)
+    → heft (claim k) (raiseLine q x) + just (x .origin) k ≤ heft (claim k) x
+raise-pays q x h z w k = rw (h, z, w, h) (omega arith)
+
+pub raise-name : (q : Line → Bool) (e : Line) → raiseLine q e .name ≡ e .name
+raise-name q e = go (isHeld (e .fate) && q e)
+  where
+    go : (b : Bool) → if b (raise e) e .name ≡ e .name
+    go true = refl
+    go false = refl
+
+-- Counts
+
+abbrev pub tick1 : (Fate → Bool) → Line → ℕ
+tick1 p e = if (isTicket (e .kind) && p (e .fate)) 1 0
+
+pub tally-same : (p : Fate → Bool) (g : Line → Line) → ((e : Line) → tick1 p (g e) ≡ tick1 p e) → (l : List Line) → tally p (map g l) ≡ tally p l
+unfolding tally
+tally-same p g h [] = refl
+tally-same p g h (e ∷ es) = ap₂ _+_ (h e) (tally-same p g h es)
+
+pub tally-plus : (p : Fate → Bool) (g : Line → Line) (f : Line → ℕ) → ((e : Line) → tick1 p (g e) ≡ tick1 p e + heft f e) → (l : List Line) → tally p (map g l) ≡ tally p l + total f l
+unfolding tally
+tally-plus p g f h [] = refl
+tally-plus p g f h (e ∷ es) = omega (arith, h e, tally-plus p g f h es)
+
+held-fate : (f : Fate) → isHeld f ≡ true → isAccepted f ≡ false
+held-fate held z = refl
+held-fate accepted z = absurd (clash z refl)
+held-fate burnt z = refl
+held-fate ended z = refl
+held-fate expired z = refl
+held-fate spent z = refl
+
+abbrev pub anyFate : Fate → Bool
+anyFate f = true
+
+pub close-all : (F : Fate) (q : Line → Bool) (e : Line) → tick1 anyFate (closeLine F q e) ≡ tick1 anyFate e
+close-all F q e = go (case (isHeld (e .fate) && q e))
+  where
+    go : Case (isHeld (e .fate) && q e) → tick1 anyFate (closeLine F q e) ≡ tick1 anyFate e
+    go (is z) = rw z
+    go (isnt z) = rw z
+
+pub close-acc : (F : Fate) (q : Line → Bool) → isAccepted F ≡ false → (e : Line) → tick1 isAccepted (closeLine F q e) ≡ tick1 isAccepted e
+close-acc F q nF e = go (case (isHeld (e .fate) && q e))
+  where
+    go : Case (isHeld (e .fate) && q e) → tick1 isAccepted (closeLine F q e) ≡ tick1 isAccepted e
+    go (is z) = rw (z, nF, held-fate (e .fate) (both (isHeld (e .fate)) (q e) z .0))
+    go (isnt z) = rw z
+
+pub close-accepted : (q : Line → Bool) (e : Line) → tick1 isAccepted (closeLine accepted q e) ≡ tick1 isAccepted e + heft (λ e. when (isTicket (e .kind) && q e) 1) e
+close-accepted q e = go (case (isHeld (e .fate))) (case (q e))
+  where
+    fix : (b : Bool) → if (b && true) 1 0 ≡ if (b && false) 1 0 + when (b && true) 1
+    fix true = refl
+    fix false = refl
+    same-still : (b c : Bool) → if (b && c) 1 0 ≡ if (b && c) 1 0 + when (b && false) 1
+    same-still true c = omega arith
+    same-still false c = refl
+    go : Case (isHeld (e .fate)) → Case (q e) → tick1 isAccepted (closeLine accepted q e) ≡ tick1 isAccepted e + heft (λ e. when (isTicket (e .kind) && q e) 1) e
+    go (is h) (is z) = rw (h, z, held-fate (e .fate) h) (fix (isTicket (e .kind)))
+    go (is h) (isnt z) = rw (h, z) (same-still (isTicket (e .kind)) (isAccepted (e .fate)))
+    go (isnt h) c = rw h (omega arith)
+
+pub raise-kind : (serial : ℕ) (p : Fate → Bool) (e : Line) → tick1 p (raiseLine (isWaitingLine serial) e) ≡ tick1 p e
+raise-kind serial p e = go (case (isHeld (e .fate) && isWaitingLine serial e))
+  where
+    go : Case (isHeld (e .fate) && isWaitingLine serial e) → tick1 p (raiseLine (isWaitingLine serial) e) ≡ tick1 p e
+    go (is z) =
+        let w = both (isHeld (e .fate)) (isWaitingLine serial e) z .1 in
+        let k : e .kind ≡ 5 = eqb-true (e .kind) 5 (both (eqb (e .kind) aWaiting) (eqb (e .ref) serial) w .0) in
+        rw (z, k)
+    go (isnt z) = rw z
+
+total-mono : (f k : Line → ℕ) → ((e : Line) → heft f e ≤ heft k e) → (l : List Line) → total f l ≤ total k l
+total-mono f k h [] = omega arith
+total-mono f k h (e ∷ es) = omega (arith, h e, total-mono f k h es)
+
+total-at : (f : Line → ℕ) (x : Line) (l : List Line) → List·Memᴰ x l → heft f x ≤ total f l
+total-at f x [] m = absurd (List·Memᴰ·not-nil m)
+total-at f x (e ∷ es) m = go (List·Memᴰ·cases-cons m) (total-at f x es)
+  where
+    go : (x ≡ e) ⊎ List·Memᴰ x es → (List·Memᴰ x es → heft f x ≤ total f es) → heft f x ≤ total f (e ∷ es)
+    go (inl q) ih = rw q (omega arith)
+    go (inr m) ih = omega (arith, ih m)
+
+-- exactly one held ticket has the text of a held ticket
+pub just-one : (book : List Line) (wins : Text → ℕ) → Owing book wins nil → (ticket : Text) (x : Line) → List·Memᴰ x book → isHeld (x .fate) ≡ true → isTicketLine ticket x ≡ true
+    → total (λ e. when (isTicket (e .kind) && isTicketLine ticket e) 1) book ≡ 1
+just-one book wins o ticket x m h t =
+    let k = both (isTicket (x .kind)) (same (x .name) ticket) t .0 in
+    let n = both (isTicket (x .kind)) (same (x .name) ticket) t .1 in
+    let a = total-mono (λ e. when (isTicket (e .kind) && isTicketLine ticket e) 1) (claim ticket) (λ e. le (isTicket (e .kind)) (same (e .name) ticket) (when (eqb (e .kind) aWaiting && same (e .origin) ticket) 1) (isHeld (e .fate))) book in
+    let b = total-at (λ e. when (isTicket (e .kind) && isTicketLine ticket e) 1) x book m in
+    let c : heft (λ e. when (isTicket (e .kind) && isTicketLine ticket e) 1) x ≡ 1 = rw (h, k, n) in
+    omega (arith, o .most ticket)
+  where
+    le : (a b : Bool) (n : ℕ) (h : Bool) → when h (when (a && (a && b)) 1) ≤ when h (when (a && b) 1 + n)
+    le true b n true = omega arith
+    le false b n true = omega arith
+    le a b n false = omega arith
+
+-- tickets are never merely spent, as login tickets and waiting grants are
+abbrev pub isSpent : Fate → Bool
+isSpent held = false
+isSpent accepted = false
+isSpent burnt = false
+isSpent ended = false
+isSpent expired = false
+isSpent spent = true
+
+held-unspent : (f : Fate) → isHeld f ≡ true → isSpent f ≡ false
+held-unspent held z = refl
+held-unspent accepted z = refl
+held-unspent burnt z = refl
+held-unspent ended z = refl
+held-unspent expired z = refl
+held-unspent spent z = absurd (clash z refl)
+
+pub close-unspent : (F : Fate) (q : Line → Bool) → isSpent F ≡ false → (e : Line) → tick1 isSpent (closeLine F q e) ≡ tick1 isSpent e
+close-unspent F q nF e = go (case (isHeld (e .fate) && q e))
+  where
+    go : Case (isHeld (e .fate) && q e) → tick1 isSpent (closeLine F q e) ≡ tick1 isSpent e
+    go (is z) = rw (z, nF, held-unspent (e .fate) (both (isHeld (e .fate)) (q e) z .0))
+    go (isnt z) = rw z
+
+pub close-other : (F : Fate) (q : Line → Bool) → ((e : Line) → q e ≡ true → isTicket (e .kind) ≡ false) → (p : Fate → Bool) (e : Line) → tick1 p (closeLine F q e) ≡ tick1 p e
+close-other F q other p e = go (case (isHeld (e .fate) && q e))
+  where
+    go : Case (isHeld (e .fate) && q e) → tick1 p (closeLine F q e) ≡ tick1 p e
+    go (is z) = rw (z, other e (both (isHeld (e .fate)) (q e) z .1))
+    go (isnt z) = rw z
+
+-- the fates of all tickets
+one-fate : (b : Bool) (f : Fate)
+    → if (b && true) 1 0 ≡ if (b && isAccepted f) 1 0 + if (b && isBurnt f) 1 0 + if (b && isEnded f) 1 0 + if (b && isExpired f) 1 0 + if (b && isHeld f) 1 0 + if (b && isSpent f) 1 0
+one-fate false f = refl
+one-fate true held = refl
+one-fate true accepted = refl
+one-fate true burnt = refl
+one-fate true ended = refl
+one-fate true expired = refl
+one-fate true spent = refl
+
+pub fates : (l : List Line) → tally anyFate l ≡ tally isAccepted l + tally isBurnt l + tally isEnded l + tally isExpired l + tally isHeld l + tally isSpent l
+unfolding tally
+fates [] = refl
+fates (e ∷ es) = omega (arith, one-fate (isTicket (e .kind)) (e .fate), fates es)
+
+pub held-total : (l : List Line) → tally isHeld l ≡ total (λ e. when (isTicket (e .kind)) 1) l
+unfolding tally
+held-total [] = refl
+held-total (e ∷ es) = ap₂ _+_ (swap (isTicket (e .kind)) (isHeld (e .fate))) (held-total es)
+  where
+    swap : (a b : Bool) → if (a && b) 1 0 ≡ when b (when a 1)
+    swap true true = refl
+    swap true false = refl
+    swap false true = refl
+    swap false false = refl

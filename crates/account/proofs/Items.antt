@@ -1,0 +1,328 @@
+-- One thing said beside one edit of the table: each keeps the table at the trail. Assumes nothing.
+use mathlib.Core.Path.{_≡_, refl, sym, ap, ap₂, _∙_, subst}
+use mathlib.Core.Logic.{_≢_}
+use mathlib.Core.Bool.{Bool, true, false, not, _&&_, _||_}
+use mathlib.Core.List.{List, [], _∷_, _++_, map}
+use Prim.Native.Nat.{ℕ, zero, suc, _+_, _≤_, _<_, min, max}
+use native.Mathlib.Omega.{arith}
+use borrow.Author.Tests.{eq-eqb, ne-eqb, eqb-true, eqb-false}
+use lib.ListN.{length, getD, set, List·getD-map}
+use lib.Dec.{eqb}
+use Rattle.protocol.specs.Bytes.{if, ascii, same}
+use Rattle.protocol.specs.Tickets.{iouText, iouFrom, aLogin, aSession, aService, aProxy, aWaiting, aGrant, lifetime}
+use Rattle.protocol.specs.Records.{Rec, freeRec, nameOf}
+use Rattle.protocol.specs.Table.{Table, tableOf, recAt, putAt}
+use Rattle.protocol.specs.Answers.{successText}
+use Rattle.protocol.specs.Steps.{tick, put, remove, endSession, isNamed, slotNamed, sessionOf, ticketSlot, waitingSlot, slotFor, newRec, add, chainOf, proxyParent, granted, isPlain, takesProxies}
+use Rattle.protocol.specs.declared.Validator.{Validator}
+use Rattle.protocol.proofs.Laws.{both, same-eq, same-refl}
+use Rattle.protocol.proofs.Added.{Room}
+use Rattle.account.specs.History.{Text}
+use Rattle.account.specs.Reading.{Item, Passed, Showed, Spent, Ended, Opened, Issued, Proxied, Burnt, Welcomed, CalledBack, Settled}
+use Rattle.account.specs.Notebook.{Fate, burnt, accepted, spent, ended, Line, Notebook, isHeld, closeAll, enter, Look, found, nothing, look, isLine, isTicket, isTicketLine, isWaitingLine, enterUnder, lineUnder, note, notebook}
+use Rattle.account.specs.Truth.{isFound, loginLive, spentLive}
+use Rattle.account.proofs.Base.{Case, is, isnt, case, clash}
+use Rattle.account.proofs.Sim.{Slot, noSlot, on, alive, lives, Above, Up, upOf, deep, Under, Good, Sim}
+use Rattle.account.proofs.Edits.{alive-kind, alive-time, under-of, home-lives}
+use Rattle.account.proofs.Look.{recOf, Tied, rec-on, Hit, Miss, isTicketNamed, isWaitingOf, hit-named, hit-slot, miss-named, hit-ticket, miss-ticket, hit-waiting, ticket-kind, waiting-kind, named-kind, named-name}
+use Rattle.account.proofs.Tables.{put-slots, tied-none, tied-remove, tied-removed, some-slot, spent-good, tied-pass}
+use Rattle.account.proofs.Sessions.{end-some, end-none, tied-raise}
+use Rattle.account.proofs.Making.{New, NewRef, new-text, new-ref, tied-login, tied-session, Source, session-source, under-source, tied-under}
+use Rattle.account.proofs.Reached.{OwesIssue, OwesOpen, RightLine, OwesWelcome, OwesCallback, OwesSettle, Owes, AllOwes, Reached}
+use Rattle.account.proofs.Chains.{user-ok, chain-ok, depth-ok, ticket-up, waiting-up}
+
+-- a table as it was, put together again
+pub tied-same : (L : Notebook) (t : Table) → Tied L t → Tied L (remove 0 t)
+tied-same L t w = record { A = w .A; n = w .n; slots-are = w .slots-are; clock-is = w .clock-is; next-is = w .next-is; sim = w .sim }
+
+module _ (start : ℕ) (h : List Item) (t : Table) (R : Reached start h t) where
+  abbrev L : Notebook
+  L = notebook start h
+
+  pub reach-pass : (time : ℕ) → Reached start (Passed time ∷ h) (tick time t)
+  unfolding notebook note
+  reach-pass time = record { tied = tied-pass L t time (R .tied); paid = (tt, R .paid) }
+
+  pub reach-show : Room t → (random : List ℕ) → Reached start (Showed (nameOf (newRec aLogin 0 0 0 0 [] random t)) ∷ h) (add (newRec aLogin 0 0 0 0 [] random t) t)
+  unfolding notebook note newRec
+  reach-show m random =
+      record {
+        tied = tied-login L t (R .tied) m random;
+        paid = (new-text L t (R .tied) (m .serial) (newRec aLogin 0 0 0 0 [] random t) refl (omega arith) (omega arith), R .paid);
+      }
+
+  pub reach-spend : (lt : Text) → Reached start (Spent lt ∷ h) (remove (slotNamed aLogin lt t) t)
+  unfolding notebook note
+  reach-spend lt = record { tied = go (case (eqb (slotNamed aLogin lt t) 0)); paid = (tt, R .paid) }
+    where
+      go : Case (eqb (slotNamed aLogin lt t) 0) → Tied (closeAll spent (isLine aLogin lt) L) (remove (slotNamed aLogin lt t) t)
+      go (is z) =
+          let e : slotNamed aLogin lt t ≡ 0 = eqb-true (slotNamed aLogin lt t) 0 z in
+          rw e (tied-same _ t (tied-none L t (R .tied) (isLine aLogin lt) spent refl (miss-named L t (R .tied) aLogin lt (omega arith) z)))
+      go (isnt z) =
+          let x = hit-named L t (R .tied) aLogin lt (omega arith) z in
+          let k = named-kind (L .clock) aLogin lt (on (R .tied .A) (slotNamed aLogin lt t) .r) (x .passes) in
+          tied-remove L t (R .tied) (slotNamed aLogin lt t) (x .live) (λ e. omega arith) (λ e. omega arith) (isLine aLogin lt) spent refl (x .picked) (x .others)
+
+  -- and it was live
+  pub spend-live : (lt : Text) → eqb (slotNamed aLogin lt t) 0 ≡ false → loginLive lt L ≡ true
+  spend-live lt z = let x = hit-named L t (R .tied) aLogin lt (omega arith) z in rw (x .line)
+
+  pub reach-end : (cookie : Text) → eqb (sessionOf cookie t) 0 ≡ false → Reached start (Ended cookie ∷ h) (endSession (sessionOf cookie t) t)
+  unfolding notebook note
+  reach-end cookie e = record { tied = end-some L t (R .tied) cookie e; paid = (tt, R .paid) }
+
+  pub reach-unended : (cookie : Text) → eqb (sessionOf cookie t) 0 ≡ true → Reached start (Ended cookie ∷ h) t
+  unfolding notebook note
+  reach-unended cookie e = record { tied = end-none L t (R .tied) cookie e; paid = (tt, R .paid) }
+
+  pub reach-open : Room t → (user random : List ℕ) (signed : Bool) (lt : Text) → signed ≡ true → spentLive start h lt ≡ true
+    → Reached start (Opened (nameOf (newRec aSession 0 0 0 0 user random t)) user signed lt ∷ h) (add (newRec aSession 0 0 0 0 user random t) t)
+  unfolding notebook note newRec
+  reach-open m user random signed lt yes-said live =
+      record {
+        tied = tied-session L t (R .tied) m user random;
+        paid =
+          (record {
+            new = new-text L t (R .tied) (m .serial) (newRec aSession 0 0 0 0 user random t) refl (omega arith) (omega arith);
+            said-yes = yes-said;
+            live = live;
+          }, R .paid);
+      }
+
+  -- a service ticket under the session in slot s, which the cookie names
+  pub reach-issue : Room t → (s : ℕ) (cookie : Text) → isNamed (t .clock) aSession cookie (recAt s (t .slots)) ≡ true
+    → (mark : ℕ) (service random : List ℕ) (signed : Bool) (lt : Text) → signed ≡ not (eqb mark 0) → (signed ≡ true → spentLive start h lt ≡ true)
+    → Reached start (Issued cookie service (nameOf (newRec aService mark s s 0 service random t)) signed lt ∷ h) (add (newRec aService mark s s 0 service random t) t)
+  unfolding notebook note newRec
+  reach-issue m s cookie named mark service random signed lt marked live =
+      let w = R .tied in
+      let n : isNamed (L .clock) aSession cookie (on (w .A) s .r) ≡ true = rw (w .clock-is, rec-on L t w s) at named in
+      let x = hit-slot L t w aSession cookie (omega arith) s n in
+      let k = named-kind (L .clock) aSession cookie (on (w .A) s .r) n in
+      record {
+        tied =
+          rw (x .line)
+            (tied-under L t w m s (x .live) (on (w .A) s .e) (session-source (w .A) (w .n) s (w .sim .good s (x .live)) k) aService mark s 0 service random [] signed 0 [] []
+              (omega arith) (omega arith) (omega arith) marked (λ e. absurd (omega arith)) (omega arith) (λ e. absurd (omega arith)) refl (λ e. absurd (omega arith)));
+        paid =
+          (record {
+            source = on (w .A) s .e;
+            line = x .line;
+            new = new-text L t w (m .serial) (newRec aService mark s s 0 service random t) refl (omega arith) (omega arith);
+            primary = live;
+          }, R .paid);
+      }
+
+  up-above : (A : List Slot) (k s : ℕ) (chain : List Text) → 1 ≤ k → Above A k s chain → Up A k s chain
+  up-above A zero s chain l a = absurd (omega arith)
+  up-above A (suc k) s chain l a = a
+
+  -- a proxy ticket by the grant in slot k
+  pub reach-proxy : Room t → (pgt : Text) → eqb (slotNamed aGrant pgt t) 0 ≡ false → (target random : List ℕ)
+    → Reached start
+        (Proxied pgt target (nameOf (newRec aProxy 0 (slotNamed aGrant pgt t) (recAt (slotNamed aGrant pgt t) (t .slots) .session) 0 target random t)) ∷ h)
+        (add (newRec aProxy 0 (slotNamed aGrant pgt t) (recAt (slotNamed aGrant pgt t) (t .slots) .session) 0 target random t) t)
+  unfolding notebook note newRec
+  reach-proxy m pgt e target random =
+      let w = R .tied in
+      let k : ℕ = slotNamed aGrant pgt t in
+      let x = hit-named L t w aGrant pgt (omega arith) e in
+      let kind = named-kind (L .clock) aGrant pgt (on (w .A) k .r) (x .passes) in
+      let g = w .sim .good k (x .live) in
+      let u = under-of (w .A) (on (w .A) k) (g .placed) (omega arith) in
+      let s : ℕ = on (w .A) k .r .session in
+      let above : Above (w .A) k s (on (w .A) k .e .text ∷ on (w .A) k .e .chain) = record { grants = kind; its-session = refl; even = u .lasts kind; linked = rw (g .text-eq) } in
+      record {
+        tied =
+          rw (x .line, rec-on L t w k)
+            (tied-under L t w m s (home-lives (L .clock) (w .A) (on (w .A) k) u (alive-time (L .clock) (on (w .A) k .r) (x .live))) (on (w .A) k .e) (under-source (w .A) (on (w .A) k) u)
+              aProxy 0 k 0 target random (on (w .A) k .e .text ∷ on (w .A) k .e .chain) false 0 [] []
+              (omega arith) (omega arith) (omega arith) refl (λ z. absurd (omega arith)) (omega arith) (λ z. absurd (omega arith))
+              (up-above (w .A) k s _ (pos k e) above) (λ z. absurd (omega arith)));
+        paid =
+          (record {
+            source = on (w .A) k .e;
+            line = x .line;
+            new = new-text L t w (m .serial) (newRec aProxy 0 k (recAt k (t .slots) .session) 0 target random t) refl (omega arith) (omega arith);
+            primary = λ z. absurd (clash z refl);
+          }, R .paid);
+      }
+    where
+      pos : (k : ℕ) → eqb k 0 ≡ false → 1 ≤ k
+      pos zero z = absurd (clash refl z)
+      pos (suc k) z = omega arith
+
+  -- The ticket in slot k has been shown
+  pub reach-unburnt : (ticket : Text) → eqb (ticketSlot ticket t) 0 ≡ true → Reached start (Burnt ticket ∷ h) t
+  unfolding notebook note
+  reach-unburnt ticket e = record { tied = tied-none L t (R .tied) (isTicketLine ticket) burnt refl (miss-ticket L t (R .tied) ticket e); paid = (tt, R .paid) }
+
+  module _ (ticket : Text) (e : eqb (ticketSlot ticket t) 0 ≡ false) where
+    abbrev k : ℕ
+    k = ticketSlot ticket t
+
+    abbrev a : Slot
+    a = on (R .tied .A) k
+
+    hits : Hit L (R .tied .A) k (isTicketNamed (L .clock) ticket) (isTicketLine ticket)
+    hits = hit-ticket L t (R .tied) ticket e
+
+    is-ticket : isTicket (a .r .kind) ≡ true
+    is-ticket = ticket-kind L t (R .tied) ticket (a .r) (hits .passes)
+
+    ticket-low : (k : ℕ) → isTicket k ≡ true → (3 ≤ k) × (k ≤ 4)
+    ticket-low k z = go (case (eqb k 3))
+      where
+        go : Case (eqb k 3) → (3 ≤ k) × (k ≤ 4)
+        go (is x) = let y = eqb-true k 3 x in (omega arith, omega arith)
+        go (isnt x) = let y : k ≡ 4 = eqb-true k 4 (rw x at z) in (omega arith, omega arith)
+
+    low : 3 ≤ a .r .kind
+    low = ticket-low (a .r .kind) is-ticket .0
+
+    high : a .r .kind ≤ 4
+    high = ticket-low (a .r .kind) is-ticket .1
+
+    removed : (F : Fate) → isHeld F ≡ false → (v : Tied (closeAll F (isTicketLine ticket) L) (remove k t)) × (v .A ≡ set (R .tied .A) k noSlot) × (v .n ≡ R .tied .n)
+    removed F hF = tied-removed L t (R .tied) k (hits .live) (λ x. omega (arith, low, high)) (λ x. omega (arith, low, high)) (isTicketLine ticket) F hF (hits .picked) (hits .others)
+
+    pub reach-burn : Reached start (Burnt ticket ∷ h) (remove (ticketSlot ticket t) t)
+    unfolding notebook note
+    reach-burn = record { tied = removed burnt refl .0; paid = (tt, R .paid) }
+
+    -- accepted: the line's text, mark and kind are the record's
+    pub right-line : (v : Validator) (renew : Bool) (service : Text) → (eqb (recAt k (t .slots) .kind) aProxy && not (takesProxies v)) ≡ false
+      → (renew && eqb (recAt k (t .slots) .mark) 0) ≡ false → same (recAt k (t .slots) .text) service ≡ true → RightLine v renew service (a .e)
+    right-line v renew service p q s =
+        let g = R .tied .sim .good k (hits .live) in
+        let r = rec-on L t (R .tied) k in
+        let p′ : (eqb (a .r .kind) aProxy && not (takesProxies v)) ≡ false = rw r at p in
+        let q′ : (renew && eqb (a .r .mark) 0) ≡ false = rw r at q in
+        let s′ : same (a .r .text) service ≡ true = rw r at s in
+        record {
+          text-is = g .text-eq ∙ same-eq (a .r .text) service s′;
+          primary = λ x. g .mark-eq ∙ marks renew (eqb (a .r .mark) 0) x q′;
+          allowed = λ x. takes (eqb (a .r .kind) aProxy) (takesProxies v) (rw (g .kind-eq) at x) p′;
+        }
+      where
+        marks : (a b : Bool) → a ≡ true → (a && b) ≡ false → not b ≡ true
+        marks true b x z = rw z
+        marks false b x z = absurd (clash x refl)
+        takes : (a b : Bool) → a ≡ true → (a && not b) ≡ false → b ≡ true
+        takes true true x z = refl
+        takes true false x z = absurd (clash refl z)
+        takes false b x z = absurd (clash x refl)
+
+    -- the records of the table without it
+    rec-after : (j : ℕ) → recAt j (putAt k freeRec (t .slots)) ≡ on (set (R .tied .A) k noSlot) j .r
+    rec-after j =
+        ap (λ (l : List Rec). getD l j freeRec) (put-slots (t .slots) (R .tied .A) k noSlot (R .tied .slots-are) (some-slot L t (R .tied) k (hits .live) (λ x. omega (arith, low, high)) (λ x. omega (arith, low, high))))
+        ∙ List·getD-map recOf (set (R .tied .A) k noSlot) j noSlot
+
+    sim-after : (F : Fate) → isHeld F ≡ false → Sim (closeAll F (isTicketLine ticket) L) (set (R .tied .A) k noSlot) (R .tied .n)
+    sim-after F hF = let v = removed F hF in rw (v .1, v .2) at (v .0 .sim)
+
+    under-after : Under (set (R .tied .A) k noSlot) a
+    under-after =
+        under-of (set (R .tied .A) k noSlot) a (spent-good L t (R .tied) k (hits .live) (λ x. omega (arith, low, high)) (λ x. omega (arith, low, high)) .placed) low
+
+    pub welcome-is : recAt (recAt k (t .slots) .session) (putAt k freeRec (t .slots)) .text ≡ a .e .user
+    unfolding closeAll
+    welcome-is =
+        rw (rec-on L t (R .tied) k)
+          (user-ok _ (set (R .tied .A) k noSlot) (R .tied .n) (sim-after accepted refl) (putAt k freeRec (t .slots)) rec-after a under-after (alive-time (L .clock) (a .r) (hits .live)))
+
+    pub chain-told : chainOf (proxyParent (recAt k (t .slots))) (putAt k freeRec (t .slots)) ≡ a .e .chain
+    unfolding closeAll
+    chain-told =
+        rw (rec-on L t (R .tied) k)
+          (chain-ok _ (set (R .tied .A) k noSlot) (R .tied .n) (sim-after accepted refl) (putAt k freeRec (t .slots)) rec-after a under-after (alive-time (L .clock) (a .r) (hits .live))
+            (proxyParent (a .r)) (ticket-up (a .r) is-ticket))
+
+    pub reach-welcome : (v : Validator) (renew : Bool) (service said : Text) → RightLine v renew service (a .e)
+      → said ≡ if (isPlain v) (ascii "yes\n") (successText (recAt (recAt k (t .slots) .session) (putAt k freeRec (t .slots)) .text) [] (chainOf (proxyParent (recAt k (t .slots))) (putAt k freeRec (t .slots))))
+      → Reached start (Welcomed v renew ticket service said ∷ h) (remove (ticketSlot ticket t) t)
+    unfolding notebook note
+    reach-welcome v renew service said right bytes =
+        record {
+          tied = removed accepted refl .0;
+          paid = (record { ticket-line = a .e; line = hits .line; right = right; bytes = rw (welcome-is, chain-told) at bytes }, R .paid);
+        }
+
+    abbrev t′ : Table
+    t′ = remove k t
+
+    abbrev waiting : List ℕ → List ℕ → Rec
+    waiting url random =
+        newRec aWaiting 0 (proxyParent (recAt k (t .slots))) (recAt k (t .slots) .session) (recAt (proxyParent (recAt k (t .slots))) (t′ .slots) .depth + 1) url random t′
+
+    pub reach-callback : Room t′ → (v : Validator) (renew : Bool) (service url random : Text) → RightLine v renew service (a .e)
+      → Reached start (CalledBack v renew ticket service url (nameOf (waiting url random)) (iouText (waiting url random .iou)) (waiting url random .serial) ∷ h) (add (waiting url random) t′)
+    unfolding notebook note newRec closeAll
+    reach-callback m v renew service url random right =
+        let w = R .tied in
+        let d = removed accepted refl in
+        let u : Under (d .0 .A) a = rw (d .1) under-after in
+        let live : L .clock < a .r .expiry = alive-time (L .clock) (a .r) (hits .live) in
+        let rec : (j : ℕ) → recAt j (t′ .slots) ≡ on (d .0 .A) j .r = rw (d .1) rec-after in
+        let up = ticket-up (a .r) is-ticket in
+        record {
+          tied =
+            rw (hits .line, rec-on L t w k)
+              (tied-under (closeAll accepted (isTicketLine ticket) L) t′ (d .0) m (a .r .session) (home-lives (L .clock) (d .0 .A) a u live) (a .e) (under-source (d .0 .A) a u)
+                aWaiting 0 (proxyParent (a .r)) (recAt (proxyParent (a .r)) (t′ .slots) .depth + 1) url random (a .e .chain) false (t .next) (a .e .name) (iouText (iouFrom aWaiting random))
+                (omega arith) (omega arith) (omega arith) refl (λ z. refl) (omega arith) (λ z. refl) (rw up (u .line))
+                (λ z. rw up (depth-ok _ (d .0 .A) (d .0 .n) (d .0 .sim) (t′ .slots) rec a u live (upOf (a .r)) refl)));
+          paid =
+            (record {
+              ticket-line = a .e;
+              line = hits .line;
+              right = right;
+              new = new-text L t w (m .serial) (waiting url random) refl (omega arith) (omega arith);
+              new-ref = new-ref L t w (m .serial);
+            }, R .paid);
+        }
+
+  -- The callback of a serial is settled
+  module _ (serial : ℕ) (e : eqb (waitingSlot serial t) 0 ≡ false) where
+    abbrev j : ℕ
+    j = waitingSlot serial t
+
+    abbrev b : Slot
+    b = on (R .tied .A) j
+
+    waits : Hit L (R .tied .A) j (isWaitingOf (L .clock) serial) (isWaitingLine serial)
+    waits = hit-waiting L t (R .tied) serial e
+
+    is-waiting : b .r .kind ≡ 5
+    is-waiting = waiting-kind L t (R .tied) serial (b .r) (waits .passes)
+
+    under : Under (R .tied .A) b
+    under = under-of (R .tied .A) b (R .tied .sim .good j (waits .live) .placed) (omega (arith, is-waiting))
+
+    pub settle-owes : (outcome : Bool) (said : Text)
+      → said ≡ successText (recAt (recAt j (t .slots) .session) (t .slots) .text) (if outcome (iouText (recAt j (t .slots) .iou)) []) (chainOf (recAt j (t .slots) .parent) (t .slots))
+      → OwesSettle start h serial outcome said
+    settle-owes outcome said bytes =
+        let w = R .tied in
+        let r = rec-on L t w j in
+        let live : L .clock < b .r .expiry = alive-time (L .clock) (b .r) (waits .live) in
+        let user = user-ok L (w .A) (w .n) (w .sim) (t .slots) (rec-on L t w) b under live in
+        let chain = chain-ok L (w .A) (w .n) (w .sim) (t .slots) (rec-on L t w) b under live (b .r .parent) (waiting-up (b .r) is-waiting) in
+        let iou : b .e .iou ≡ iouText (b .r .iou) = w .sim .good j (waits .live) .iou-eq is-waiting in
+        record { waiting-line = b .e; line = waits .line; bytes = rw (r, user, chain, ← iou) at bytes }
+
+    pub reach-granted : (said : Text) → OwesSettle start h serial true said
+      → Reached start (Settled serial true said ∷ h) (put (waitingSlot serial t) (granted (recAt (waitingSlot serial t) (t .slots)) (t .slots)) t)
+    unfolding notebook note
+    reach-granted said owes = record { tied = tied-raise L t (R .tied) serial e; paid = (owes, R .paid) }
+
+    pub reach-refused : (said : Text) → OwesSettle start h serial false said → Reached start (Settled serial false said ∷ h) (remove (waitingSlot serial t) t)
+    unfolding notebook note
+    reach-refused said owes =
+        record {
+          tied =
+            tied-remove L t (R .tied) j (waits .live) (λ x. omega (arith, is-waiting)) (λ x. omega (arith, is-waiting)) (isWaitingLine serial) spent refl (waits .picked) (waits .others);
+          paid = (owes, R .paid);
+        }

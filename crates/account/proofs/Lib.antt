@@ -1,0 +1,22 @@
+-- The proof of demand 3.
+pub mod Base
+pub mod Sim
+pub mod Edits
+pub mod Look
+pub mod Tables
+pub mod Sessions
+pub mod Making
+pub mod Reached
+pub mod Chains
+pub mod Items
+pub mod Texts
+pub mod Counts
+pub mod Same
+pub mod LoginGet
+pub mod LoginPost
+pub mod Validators
+pub mod Others
+pub mod Run
+pub mod Traced
+pub mod Books
+pub mod Demand

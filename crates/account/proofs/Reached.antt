@@ -1,0 +1,77 @@
+-- What is owed for each thing said, by the notebook just before it, and the trail that a table has reached. Assumes nothing.
+use mathlib.Core.Path.{_≡_, refl, sym, ap, ap₂, _∙_, subst}
+use mathlib.Core.Bool.{Bool, true, false, not, _&&_, _||_}
+use mathlib.Core.List.{List, [], _∷_, _++_, map}
+use Prim.Native.Nat.{ℕ, zero, suc, _+_}
+use lib.Dec.{eqb}
+use Rattle.protocol.specs.Bytes.{if, ascii}
+use Rattle.protocol.specs.Tickets.{aSession, aProxy, aGrant}
+use Rattle.protocol.specs.Table.{Table}
+use Rattle.protocol.specs.Answers.{successText}
+use Rattle.protocol.specs.Steps.{isPlain, takesProxies}
+use Rattle.protocol.specs.declared.Validator.{Validator}
+use Rattle.account.specs.History.{Text}
+use Rattle.account.specs.Reading.{Item, Passed, Showed, Spent, Ended, Opened, Issued, Proxied, Burnt, Welcomed, CalledBack, Settled}
+use Rattle.account.specs.Notebook.{Line, Notebook, Look, found, nothing, look, isLine, isTicketLine, isWaitingLine, notebook}
+use Rattle.account.specs.Truth.{spentLive}
+use Rattle.account.proofs.Look.{Tied}
+use Rattle.account.proofs.Making.{New, NewRef}
+
+-- a service ticket stands on a live session, and a proxy ticket on a live grant
+pub record OwesIssue (start : ℕ) (older : List Item) (test : Line → Bool) (ticket : Text) (signed : Bool) (lt : Text) : Type 0 where
+  pub source : Line
+  pub line : look test (notebook start older .book) ≡ found source
+  pub new : New (notebook start older) ticket
+  pub primary : signed ≡ true → spentLive start older lt ≡ true
+
+-- a session is opened by accepted credentials
+pub record OwesOpen (start : ℕ) (older : List Item) (cookie : Text) (signed : Bool) (lt : Text) : Type 0 where
+  pub new : New (notebook start older) cookie
+  pub said-yes : signed ≡ true
+  pub live : spentLive start older lt ≡ true
+
+-- an accepted ticket's line
+pub record RightLine (v : Validator) (renew : Bool) (service : Text) (x : Line) : Type 0 where
+  pub text-is : x .text ≡ service
+  pub primary : renew ≡ true → x .mark ≡ true
+  pub allowed : eqb (x .kind) aProxy ≡ true → takesProxies v ≡ true
+
+pub record OwesWelcome (start : ℕ) (older : List Item) (v : Validator) (renew : Bool) (ticket service said : Text) : Type 0 where
+  pub ticket-line : Line
+  pub line : look (isTicketLine ticket) (notebook start older .book) ≡ found ticket-line
+  pub right : RightLine v renew service ticket-line
+  pub bytes : said ≡ if (isPlain v) (ascii "yes\n") (successText (ticket-line .user) [] (ticket-line .chain))
+
+pub record OwesCallback (start : ℕ) (older : List Item) (v : Validator) (renew : Bool) (ticket service pgt : Text) (serial : ℕ) : Type 0 where
+  pub ticket-line : Line
+  pub line : look (isTicketLine ticket) (notebook start older .book) ≡ found ticket-line
+  pub right : RightLine v renew service ticket-line
+  pub new : New (notebook start older) pgt
+  pub new-ref : NewRef (notebook start older) serial
+
+pub record OwesSettle (start : ℕ) (older : List Item) (serial : ℕ) (outcome : Bool) (said : Text) : Type 0 where
+  pub waiting-line : Line
+  pub line : look (isWaitingLine serial) (notebook start older .book) ≡ found waiting-line
+  pub bytes : said ≡ successText (waiting-line .user) (if outcome (waiting-line .iou) []) (waiting-line .chain)
+
+abbrev pub Owes : ℕ → Item → List Item → Type 0
+Owes start (Passed time) older = Unit {0}
+Owes start (Showed lt) older = New (notebook start older) lt
+Owes start (Spent lt) older = Unit {0}
+Owes start (Ended cookie) older = Unit {0}
+Owes start (Opened cookie user signed lt) older = OwesOpen start older cookie signed lt
+Owes start (Issued cookie service ticket signed lt) older = OwesIssue start older (isLine aSession cookie) ticket signed lt
+Owes start (Proxied pgt target ticket) older = OwesIssue start older (isLine aGrant pgt) ticket false []
+Owes start (Burnt ticket) older = Unit {0}
+Owes start (Welcomed v renew ticket service said) older = OwesWelcome start older v renew ticket service said
+Owes start (CalledBack v renew ticket service url pgt iou serial) older = OwesCallback start older v renew ticket service pgt serial
+Owes start (Settled serial outcome said) older = OwesSettle start older serial outcome said
+
+abbrev pub AllOwes : ℕ → List Item → Type 0
+AllOwes start [] = Unit {0}
+AllOwes start (i ∷ older) = Owes start i older × AllOwes start older
+
+-- the table t is tied to the notebook of the trail, which owes nothing more
+pub record Reached (start : ℕ) (trail : List Item) (t : Table) : Type 0 where
+  pub tied : Tied (notebook start trail) t
+  pub paid : AllOwes start trail

@@ -1,0 +1,200 @@
+-- The edits of a table keep it tied to the notebook. Assumes nothing.
+use mathlib.Core.Path.{_≡_, refl, sym, ap, ap₂, _∙_, subst}
+use mathlib.Core.Logic.{_⊎_, inl, inr, _≢_}
+use mathlib.Core.Bool.{Bool, true, false, not, _&&_, _||_}
+use mathlib.Core.List.{List, [], _∷_, _++_, map, List·Memᴰ}
+use Prim.Native.Nat.{ℕ, zero, suc, _+_, _%_, _≤_, _<_, min, max}
+use native.Mathlib.Omega.{arith}
+use native.Mathlib.Decide.{ℕ-discrete}
+use borrow.Author.Tests.{eq-eqb, ne-eqb, eqb-true, eqb-false, lt-ltb, ltb-true, ltb-false, le-ltb, not-true, not-false}
+use lib.ListN.{length, getD, set, List·getD-map, length-map, length-set}
+use lib.Seq.{getD-set-same, getD-set-other}
+use lib.Dec.{leb, ltb, eqb}
+use Rattle.protocol.specs.Bytes.{if, same, zeros}
+use Rattle.protocol.specs.Tickets.{ticketText, iouText, lifetime, aSession, aWaiting, aGrant}
+use Rattle.protocol.specs.Records.{Rec, freeRec, nameOf, live}
+use Rattle.protocol.specs.Table.{Table, tableOf, recAt, putAt}
+use Rattle.protocol.specs.Steps.{clearRec, tick, put, remove, endRec, endSession, isNamed, slotNamed, slotFor, add, granted}
+use Rattle.protocol.proofs.Laws.{both, same-eq, same-refl}
+use Rattle.protocol.proofs.Added.{Room}
+use Rattle.account.specs.History.{Text}
+use Rattle.account.specs.Notebook.{Fate, held, ended, expired, Line, Notebook, isHeld, close, closeLine, closeAll, enter, raise, raiseLine, raiseAll, pass, isLine, isTicket, isWaitingLine, ofSession}
+use Rattle.account.proofs.Base.{Case, is, isnt, case, clash, one-test, untrue, and-not, or-left, or-right, when, sum, name-serial}
+use Rattle.account.proofs.Sim.{Slot, noLine, noSlot, on, alive, lives, weight, weigh, heft, total, Above, Up, upOf, deep, Under, Placed, login, session, below, Good, Before, Sim, good-move, through}
+use Rattle.account.proofs.Edits.{alive-kind, alive-time, alive-is, free-dead, under-of, home-lives, up-lives, parent-lives, up-grants, close-name, sim-drop, sim-put, sim-change, sim-time}
+use Rattle.account.proofs.Look.{recOf, Tied, live-inside, rec-on, size-is, zero-dead, same-name, Hit, Miss}
+
+pub map-set : (A : List Slot) (k : ℕ) (a : Slot) → set (map recOf A) k (a .r) ≡ map recOf (set A k a)
+map-set [] k a = refl
+map-set (b ∷ A) zero a = refl
+map-set (b ∷ A) (suc k) a = ap (λ (l : List Rec). b .r ∷ l) (map-set A k a)
+
+-- a record put into a slot
+pub put-slots : (slots : List Rec) (A : List Slot) (k : ℕ) (a : Slot) → freeRec ∷ slots ≡ map recOf A → 1 ≤ k → freeRec ∷ putAt k (a .r) slots ≡ map recOf (set A k a)
+put-slots slots A zero a e h = absurd (omega arith)
+put-slots slots A (suc k) a e h = ap (λ (l : List Rec). set l (suc k) (a .r)) e ∙ map-set A (suc k) a
+
+dead-no : (c : ℕ) (a : Slot) → a ≡ noSlot → alive c (a .r) ≡ false
+dead-no c a e = rw e
+
+-- Where no live line is picked, closing changes nothing
+pub tied-none : (L : Notebook) (t : Table) (w : Tied L t) (q : Line → Bool) (F : Fate) → isHeld F ≡ false → Miss L (w .A) q → Tied (closeAll F q L) t
+unfolding closeAll
+tied-none L t w q F hF m =
+    record {
+      A = w .A;
+      n = w .n;
+      slots-are = w .slots-are;
+      clock-is = w .clock-is;
+      next-is = w .next-is;
+      sim =
+        sim-drop L (w .A) (w .A) (w .n) (w .sim) (λ i. false) q F hF refl (λ i z. refl) (λ i z. absurd (clash z refl)) (λ i l. m .all i l) (λ i l u z. refl)
+          (λ i k l u e z. refl);
+    }
+
+-- A live record that nothing names leaves its slot
+module _ (L : Notebook) (t : Table) (w : Tied L t) (k : ℕ) (lk : lives (L .clock) (w .A) k ≡ true) (ns : on (w .A) k .r .kind ≢ 2) (ng : on (w .A) k .r .kind ≢ 6) where
+  spent : List Slot
+  spent = set (w .A) k noSlot
+
+  pub some-slot : 1 ≤ k
+  some-slot = go k lk
+    where
+      go : (k : ℕ) → lives (L .clock) (w .A) k ≡ true → 1 ≤ k
+      go zero l = absurd (clash l (zero-dead L t w))
+      go (suc k) l = omega arith
+
+  spent-keep : (i : ℕ) → eqb i k ≡ false → on spent i ≡ on (w .A) i
+  unfolding spent
+  spent-keep i z = getD-set-other (w .A) k i noSlot noSlot (eqb-false i k z)
+
+  spent-gone : (i : ℕ) → eqb i k ≡ true → lives (L .clock) spent i ≡ false
+  unfolding spent
+  spent-gone i z =
+      let e : i ≡ k = eqb-true i k z in
+      dead-no (L .clock) (on (set (w .A) k noSlot) i) (rw e (getD-set-same (w .A) k noSlot noSlot (live-inside (L .clock) (w .A) k lk)))
+
+  other-home : (a : Slot) → Under (w .A) a → eqb (a .r .session) k ≡ false
+  other-home a u = ne-eqb (a .r .session) k (λ e. ns (rw e at (u .home)))
+
+  other-parent : (a : Slot) (j : ℕ) → Under (w .A) a → upOf (a .r) ≡ suc j → eqb (suc j) k ≡ false
+  other-parent a j u e = ne-eqb (suc j) k (λ x. ng (rw x at (up-grants (w .A) _ _ _ j (u .line) e .0)))
+
+  pub tied-removed : (q : Line → Bool) (F : Fate) → isHeld F ≡ false → q (on (w .A) k .e) ≡ true
+    → ((j : ℕ) → lives (L .clock) (w .A) j ≡ true → j ≢ k → q (on (w .A) j .e) ≡ false)
+    → (v : Tied (closeAll F q L) (remove k t)) × (v .A ≡ set (w .A) k noSlot) × (v .n ≡ w .n)
+  unfolding closeAll spent
+  tied-removed q F hF picked others =
+      (record {
+        A = spent;
+        n = w .n;
+        slots-are = put-slots (t .slots) (w .A) k noSlot (w .slots-are) some-slot;
+        clock-is = w .clock-is;
+        next-is = w .next-is;
+        sim =
+          sim-drop L (w .A) spent (w .n) (w .sim) (λ i. eqb i k) q F hF (length-set (w .A) k noSlot) spent-keep spent-gone agree
+            (λ i l u z. other-home (on (w .A) i) u) (λ i j l u e z. other-parent (on (w .A) i) j u e);
+      }, refl, refl)
+    where
+      agree : (i : ℕ) → lives (L .clock) (w .A) i ≡ true → q (on (w .A) i .e) ≡ eqb i k
+      agree i l = go (ℕ-discrete i k)
+        where
+          go : Dec (i ≡ k) → q (on (w .A) i .e) ≡ eqb i k
+          go (yes e) = rw e picked ∙ sym (eq-eqb i k e)
+          go (no ne) = others i l ne ∙ sym (ne-eqb i k ne)
+
+  pub tied-remove : (q : Line → Bool) (F : Fate) → isHeld F ≡ false → q (on (w .A) k .e) ≡ true
+    → ((j : ℕ) → lives (L .clock) (w .A) j ≡ true → j ≢ k → q (on (w .A) j .e) ≡ false) → Tied (closeAll F q L) (remove k t)
+  tied-remove q F hF picked others = tied-removed q F hF picked others .0
+
+  -- what was said of it still holds of its session and parents
+  pub spent-good : Good (set (w .A) k noSlot) (w .n) (on (w .A) k)
+  spent-good =
+      let g = w .sim .good k lk in
+      good-move (w .A) (set (w .A) k noSlot) (w .n) (w .n) (on (w .A) k) (omega arith)
+        (λ h. getD-set-other (w .A) k (on (w .A) k .r .session) noSlot noSlot (eqb-false _ k (other-home (on (w .A) k) (under-of (w .A) (on (w .A) k) (g .placed) h))))
+        (λ h j e. getD-set-other (w .A) k (suc j) noSlot noSlot (eqb-false (suc j) k (other-parent (on (w .A) k) j (under-of (w .A) (on (w .A) k) (g .placed) h) e)))
+        g
+
+-- A record is added in the slot that is found free
+pub serial-is : (L : Notebook) (t : Table) (w : Tied L t) → 1 ≤ t .next → (t .next ≡ w .n) × (w .n < 4294967296)
+serial-is L t w h =
+    let e = w .next-is in
+    let m = w .sim .top in
+    (omega arith, omega arith)
+
+pub tied-add : (L : Notebook) (t : Table) (w : Tied L t) → Room t → (a : Slot) → alive (L .clock) (a .r) ≡ true → a .r .serial ≡ w .n → a .e .ref ≤ w .n
+    → Good (w .A) (suc (w .n)) a → Tied (enter (a .e) L) (add (a .r) t)
+unfolding add enter
+tied-add L t w m a la sa ra ga =
+    let s = serial-is L t w (m .serial) in
+    record {
+      A = set (w .A) (slotFor t) a;
+      n = suc (w .n);
+      slots-are = put-slots (t .slots) (w .A) (slotFor t) a (w .slots-are) (m .some);
+      clock-is = w .clock-is;
+      next-is = ap (λ (x : ℕ). (x + 1) % 4294967296) (s .0) ∙ ap (λ (x : ℕ). x % 4294967296) (omega arith);
+      sim =
+        sim-put L (w .A) (w .n) (w .sim) (slotFor t) (omega (arith, size-is L t w, m .within)) (free-dead (L .clock) (on (w .A) (slotFor t) .r) (rw (rec-on L t w (slotFor t)) at (m .free)))
+          a la sa ra (s .1) ga;
+    }
+
+-- The clock moves and the dead are cleared
+
+clearS : ℕ → Slot → Slot
+clearS c a = record { r = clearRec c (a .r); e = a .e }
+
+if-same : (b : Bool) → if b freeRec freeRec ≡ freeRec
+if-same true = refl
+if-same false = refl
+
+on-clear : (c : ℕ) (A : List Slot) (i : ℕ) → on (map (clearS c) A) i ≡ clearS c (on A i)
+unfolding clearS
+on-clear c A i =
+    let d : clearS c noSlot ≡ noSlot = ap (λ (b : Rec). record { r = b; e = noLine }) (if-same (ltb c 0)) in
+    ap (λ (d : Slot). getD (map (clearS c) A) i d) (sym d) ∙ List·getD-map (clearS c) A i noSlot
+
+map-clear : (c : ℕ) (A : List Slot) → map (clearRec c) (map recOf A) ≡ map recOf (map (clearS c) A)
+unfolding clearS
+map-clear c [] = refl
+map-clear c (a ∷ A) = ap (λ (l : List Rec). clearRec c (a .r) ∷ l) (map-clear c A)
+
+clear-slots : (c : ℕ) (slots : List Rec) (A : List Slot) → freeRec ∷ slots ≡ map recOf A → freeRec ∷ map (clearRec c) slots ≡ map recOf (map (clearS c) A)
+clear-slots c slots A e =
+    ap (λ (r : Rec). r ∷ map (clearRec c) slots) (sym (if-same (ltb c 0)))
+    ∙ ap (map (clearRec c)) e
+    ∙ map-clear c A
+
+close-none : (F : Fate) (l : List Line) → map (closeLine F (λ (e : Line). false)) l ≡ l
+close-none F [] = refl
+close-none F (e ∷ es) = ap₂ _∷_ (rw (and-not (isHeld (e .fate)))) (close-none F es)
+
+sim-clear : (L : Notebook) (A : List Slot) (n : ℕ) → Sim L A n → Sim L (map (clearS (L .clock)) A) n
+unfolding closeAll clearS
+sim-clear L A n S =
+    let s =
+          sim-drop L A (map (clearS (L .clock)) A) n S (λ i. not (ltb (L .clock) (on A i .r .expiry))) (λ (e : Line). false) expired refl (length-map A (clearS (L .clock))) keep gone
+            (λ i l. sym (rw (fresh i l)))
+            (λ i l u z. rw (fresh _ (home-lives (L .clock) A (on A i) u (alive-time (L .clock) (on A i .r) l))))
+            (λ i k l u e z. rw (fresh (suc k) (parent-lives (L .clock) A (on A i) k u (alive-time (L .clock) (on A i .r) l) e))) in
+    rw (close-none expired (L .book)) at s
+  where
+    fresh : (i : ℕ) → lives (L .clock) A i ≡ true → ltb (L .clock) (on A i .r .expiry) ≡ true
+    fresh i l = lt-ltb (L .clock) (on A i .r .expiry) (alive-time (L .clock) (on A i .r) l)
+    keep : (i : ℕ) → not (ltb (L .clock) (on A i .r .expiry)) ≡ false → on (map (clearS (L .clock)) A) i ≡ on A i
+    keep i z = on-clear (L .clock) A i ∙ rw (not-false (ltb (L .clock) (on A i .r .expiry)) z)
+    gone : (i : ℕ) → not (ltb (L .clock) (on A i .r .expiry)) ≡ true → lives (L .clock) (map (clearS (L .clock)) A) i ≡ false
+    gone i z = rw (on-clear (L .clock) A i, not-true (ltb (L .clock) (on A i .r .expiry)) z)
+
+pub tied-pass : (L : Notebook) (t : Table) (time : ℕ) → Tied L t → Tied (pass time L) (tick time t)
+unfolding pass closeAll tick
+tied-pass L t time w =
+    let s = sim-time L (w .A) (w .n) (w .sim) (max (L .clock) time) (omega arith) in
+    record {
+      A = map (clearS (max (L .clock) time)) (w .A);
+      n = w .n;
+      slots-are = rw (w .clock-is) (clear-slots (max (L .clock) time) (t .slots) (w .A) (w .slots-are));
+      clock-is = rw (w .clock-is);
+      next-is = w .next-is;
+      sim = sim-clear _ (w .A) (w .n) s;
+    }

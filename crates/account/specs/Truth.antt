@@ -1,0 +1,175 @@
+-- Where a ticket comes from, told from the history alone, besides the notebook: its service, its user, its true chain, its credentials.
+use mathlib.Core.Bool.{Bool, true, false, _&&_, _||_, not}
+use mathlib.Core.List.{List, [], _∷_}
+use Prim.Native.Nat.{ℕ, _+_}
+use lib.Dec.{eqb}
+use Rattle.protocol.specs.Bytes.{if, same}
+use Rattle.protocol.specs.Tickets.{aLogin}
+use Rattle.account.specs.History.{Text}
+use Rattle.account.specs.Reading.{Item, Passed, Showed, Spent, Ended, Opened, Issued, Proxied, Burnt, Welcomed, CalledBack, Settled}
+use Rattle.account.specs.Notebook.{Notebook, Look, found, nothing, look, isLine, notebook}
+
+-- an item that issues a ticket: by a login, or by a grant
+pub data Issue : Type 0 where
+  none : Issue
+  byLogin : (cookie service ticket : Text) → (signed : Bool) → (lt : Text) → Issue
+  byGrant : (pgt target ticket : Text) → Issue
+
+abbrev pub issueIn : Item → Issue
+issueIn (Passed time) = none
+issueIn (Showed lt) = none
+issueIn (Spent lt) = none
+issueIn (Ended cookie) = none
+issueIn (Opened cookie user signed lt) = none
+issueIn (Issued cookie service ticket signed lt) = byLogin cookie service ticket signed lt
+issueIn (Proxied pgt target ticket) = byGrant pgt target ticket
+issueIn (Burnt ticket) = none
+issueIn (Welcomed v renew ticket service said) = none
+issueIn (CalledBack v renew ticket service url pgt iou serial) = none
+issueIn (Settled serial outcome said) = none
+
+-- an item that makes a grant: the ticket accepted in that call, pgtUrl, the grant's text, IOU and serial
+pub data Making : Type 0 where
+  none : Making
+  making : (ticket url pgt iou : Text) → (serial : ℕ) → Making
+
+abbrev pub makingIn : Item → Making
+makingIn (Passed time) = none
+makingIn (Showed lt) = none
+makingIn (Spent lt) = none
+makingIn (Ended cookie) = none
+makingIn (Opened cookie user signed lt) = none
+makingIn (Issued cookie service ticket signed lt) = none
+makingIn (Proxied pgt target ticket) = none
+makingIn (Burnt ticket) = none
+makingIn (Welcomed v renew ticket service said) = none
+makingIn (CalledBack v renew ticket service url pgt iou serial) = making ticket url pgt iou serial
+makingIn (Settled serial outcome said) = none
+
+-- an item that opens a session: the cookie, and the username of that sign-on
+pub data Opening : Type 0 where
+  none : Opening
+  opening : (cookie user : Text) → Opening
+
+abbrev pub openingIn : Item → Opening
+openingIn (Passed time) = none
+openingIn (Showed lt) = none
+openingIn (Spent lt) = none
+openingIn (Ended cookie) = none
+openingIn (Opened cookie user signed lt) = opening cookie user
+openingIn (Issued cookie service ticket signed lt) = none
+openingIn (Proxied pgt target ticket) = none
+openingIn (Burnt ticket) = none
+openingIn (Welcomed v renew ticket service said) = none
+openingIn (CalledBack v renew ticket service url pgt iou serial) = none
+openingIn (Settled serial outcome said) = none
+
+-- an item that spends a login ticket
+pub data Spending : Type 0 where
+  none : Spending
+  spending : (lt : Text) → Spending
+
+abbrev pub spendingIn : Item → Spending
+spendingIn (Passed time) = none
+spendingIn (Showed lt) = none
+spendingIn (Spent lt) = spending lt
+spendingIn (Ended cookie) = none
+spendingIn (Opened cookie user signed lt) = none
+spendingIn (Issued cookie service ticket signed lt) = none
+spendingIn (Proxied pgt target ticket) = none
+spendingIn (Burnt ticket) = none
+spendingIn (Welcomed v renew ticket service said) = none
+spendingIn (CalledBack v renew ticket service url pgt iou serial) = none
+spendingIn (Settled serial outcome said) = none
+
+-- whose accepted credentials opened the session of a cookie: the username of the sign-on that wrote it
+abbrev pub openedHere : Opening → Text → Text → Text
+openedHere none cookie before = before
+openedHere (opening c user) cookie before = if (same c cookie) user before
+
+unfoldable pub openerOf : List Item → Text → Text
+openerOf [] cookie = []
+openerOf (i ∷ older) cookie = openedHere (openingIn i) cookie (openerOf older cookie)
+
+-- a login ticket is live: the notebook holds it
+abbrev pub isFound : Look → Bool
+isFound (found e) = true
+isFound nothing = false
+
+abbrev pub loginLive : Text → Notebook → Bool
+loginLive lt b = isFound (look (isLine aLogin lt) (b .book))
+
+-- a login ticket was live when the newest sign-on that shows it spent it; the one that issues a ticket spends its own just before
+abbrev pub spentHere : Spending → Text → Bool → Bool → Bool
+spentHere none lt live before = before
+spentHere (spending l) lt live before = if (same l lt) live before
+
+unfoldable pub spentLive : ℕ → List Item → Text → Bool
+spentLive start [] lt = false
+spentLive start (i ∷ older) lt = spentHere (spendingIn i) lt (loginLive lt (notebook start older)) (spentLive start older lt)
+
+-- a ticket: it was issued, to this service, under a session of this user, with this chain, by a grant, by accepted credentials
+pub record Origin : Type 0 where
+  pub issued : Bool
+  pub service : Text
+  pub user : Text
+  pub chain : List Text
+  pub proxied : Bool
+  pub credentials : Bool
+
+-- a grant, or the callback of a serial: it was made; the ticket accepted in the call that made it, the IOU shown, the user and chain of that ticket, and pgtUrl
+pub record Granting : Type 0 where
+  pub made : Bool
+  pub ticket : Text
+  pub iou : Text
+  pub user : Text
+  pub chain : List Text
+  pub url : Text
+
+abbrev pub neverIssued : Origin
+neverIssued = record { issued = false; service = []; user = []; chain = []; proxied = false; credentials = false }
+
+abbrev pub neverMade : Granting
+neverMade = record { made = false; ticket = []; iou = []; user = []; chain = []; url = [] }
+
+-- issued by login: the session's user, no chain; credentials where the call was signed and its login ticket live.
+abbrev pub loginOrigin : Text → Text → Bool → Origin
+loginOrigin service user credentials = record { issued = true; service = service; user = user; chain = []; proxied = false; credentials = credentials }
+
+-- issued by a grant: its user; pgtUrl of the call that made the grant, then the chain of the ticket accepted in that call
+abbrev pub grantOrigin : Text → Granting → Origin
+grantOrigin target g = record { issued = true; service = target; user = g .user; chain = g .url ∷ g .chain; proxied = true; credentials = false }
+
+abbrev pub issuedHere : Issue → Text → (Text → Text) → (Text → Bool) → (Text → Granting) → Origin → Origin
+issuedHere none x user live grant before = before
+issuedHere (byLogin cookie service ticket signed lt) x user live grant before = if (same ticket x) (loginOrigin service (user cookie) (signed && live lt)) before
+issuedHere (byGrant pgt target ticket) x user live grant before = if (same ticket x) (grantOrigin target (grant pgt)) before
+
+-- made in a call that accepted a ticket
+abbrev pub madeFrom : Text → Text → Text → Origin → Granting
+madeFrom ticket iou url o = record { made = true; ticket = ticket; iou = iou; user = o .user; chain = o .chain; url = url }
+
+abbrev pub madeHere : Making → Text → (Text → Origin) → Granting → Granting
+madeHere none g origin before = before
+madeHere (making ticket url pgt iou serial) g origin before = if (same pgt g) (madeFrom ticket iou url (origin ticket)) before
+
+abbrev pub calledHere : Making → ℕ → (Text → Origin) → Granting → Granting
+calledHere none n origin before = before
+calledHere (making ticket url pgt iou serial) n origin before = if (eqb serial n) (madeFrom ticket iou url (origin ticket)) before
+
+unfoldable mutual
+  -- of a ticket, by its text
+  pub originOf : ℕ → List Item → Text → Origin
+  originOf start [] x = neverIssued
+  originOf start (i ∷ older) x =
+      issuedHere (issueIn i) x (λ (c : Text). openerOf older c) (λ (l : Text). spentLive start older l) (λ (g : Text). grantOf start older g) (originOf start older x)
+
+  -- of a grant, by its text
+  pub grantOf : ℕ → List Item → Text → Granting
+  grantOf start [] g = neverMade
+  grantOf start (i ∷ older) g = madeHere (makingIn i) g (λ (x : Text). originOf start older x) (grantOf start older g)
+
+-- of the callback with a serial
+unfoldable pub calledOf : ℕ → List Item → ℕ → Granting
+calledOf start [] n = neverMade
+calledOf start (i ∷ older) n = calledHere (makingIn i) n (λ (x : Text). originOf start older x) (calledOf start older n)
