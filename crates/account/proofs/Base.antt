@@ -71,8 +71,8 @@ same-sym (x ∷ a) (y ∷ b) = ap₂ _&&_ (eqb-sym x y) (same-sym a b)
     eqb-sym : (x y : ℕ) → eqb x y ≡ eqb y x
     eqb-sym x y =
         one-test (eqb x y) (eqb y x)
-          (λ e. borrow.Author.Tests.eq-eqb y x (sym (borrow.Author.Tests.eqb-true x y e)))
-          (λ e. borrow.Author.Tests.eq-eqb x y (sym (borrow.Author.Tests.eqb-true y x e)))
+        (λ e. borrow.Author.Tests.eq-eqb y x (sym (borrow.Author.Tests.eqb-true x y e)))
+        (λ e. borrow.Author.Tests.eq-eqb x y (sym (borrow.Author.Tests.eqb-true y x e)))
 
 -- a number that counts where a test holds, and sums
 abbrev pub when : Bool → ℕ → ℕ

@@ -40,9 +40,9 @@ module _ (L : Notebook) (A : List Slot) (n : ℕ) (S : Sim L A n) (slots : List 
       let f : on A (suc k) .r .depth ≡ suc (deep A (on A (suc k) .r .parent)) = rw x at (u .falls (omega (arith, h .grants))) in
       let e′ : deep A (on A (suc k) .r .parent) ≡ d = omega arith in
       rw (rec (suc k))
-        (ap (λ (c : List Text). on A (suc k) .r .text ∷ c)
-          (walk d (on A (suc k) .r .parent) (on A (suc k) .r .session) (on A (suc k) .e .chain) (rw (h .its-session) v) e′ (rw x at (u .line)))
-        ∙ sym (h .linked))
+      (ap (λ (c : List Text). on A (suc k) .r .text ∷ c)
+      (walk d (on A (suc k) .r .parent) (on A (suc k) .r .session) (on A (suc k) .e .chain) (rw (h .its-session) v) e′ (rw x at (u .line)))
+      ∙ sym (h .linked))
 
   deep-is : (p : ℕ) → recAt p slots .depth ≡ deep A p
   deep-is zero = refl

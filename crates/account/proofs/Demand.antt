@@ -82,7 +82,6 @@ record Books (start : ℕ) (h : List Item) (book : List Line) : Type 0 where
 -- lines that are closed and lose nothing that counts
 module _ (start : ℕ) (i : Item) (older : List Item) (book : List Line) (b : Books start older book)
     (quiet : (k : Text) → successes start (i ∷ older) k ≡ successes start older k) (no-issue : issuesIn i ≡ 0) (no-accept : acceptsIn i ≡ 0) where
-
   close-books : (F : Fate) (q : Line → Bool) → isHeld F ≡ false → isAccepted F ≡ false → isSpent F ≡ false → Books start (i ∷ older) (map (closeLine F q) book)
   close-books F q hF nF sF =
       record {
@@ -140,19 +139,23 @@ module _ (start : ℕ) (older : List Item) (book : List Line) (b : Books start o
   accept-owing : Owing (map (closeLine accepted (isTicketLine ticket)) book) (λ (k : Text). successes start older k) (just ticket)
   accept-owing =
       pay book _ (closeLine accepted (isTicketLine ticket)) (just ticket) (close-less accepted (isTicketLine ticket) refl) (close-name accepted (isTicketLine ticket)) x m
-        (λ k.
-          let z = close-pays accepted (isTicketLine ticket) refl x h t is-ticket k in
-          let n : just (x .name) k ≡ just ticket k = ap (λ (y : Text). just y k) its-name in
-          omega arith)
-        (b .owing)
+      (λ k.
+      let z = close-pays accepted (isTicketLine ticket) refl x h t is-ticket k in
+      let n : just (x .name) k ≡ just ticket k = ap (λ (y : Text). just y k) its-name in
+      omega arith)
+      (b .owing)
 
   accept-all : sumIn issuesIn older ≡ tally anyFate (map (closeLine accepted (isTicketLine ticket)) book)
   accept-all = b .all ∙ sym (tally-same anyFate (closeLine accepted (isTicketLine ticket)) (close-all accepted (isTicketLine ticket)) book)
 
   accept-acc : suc (sumIn acceptsIn older) ≡ tally isAccepted (map (closeLine accepted (isTicketLine ticket)) book)
   accept-acc =
-      omega (arith, b .acc, tally-plus isAccepted (closeLine accepted (isTicketLine ticket)) (λ e. when (isTicket (e .kind) && isTicketLine ticket e) 1) (close-accepted (isTicketLine ticket)) book,
-        just-one book _ (b .owing) ticket x m h t)
+      omega (
+        arith,
+        b .acc,
+        tally-plus isAccepted (closeLine accepted (isTicketLine ticket)) (λ e. when (isTicket (e .kind) && isTicketLine ticket e) 1) (close-accepted (isTicketLine ticket)) book,
+        just-one book _ (b .owing) ticket x m h t,
+      )
 
   accept-unspent : tally isSpent (map (closeLine accepted (isTicketLine ticket)) book) ≡ 0
   accept-unspent = tally-same isSpent (closeLine accepted (isTicketLine ticket)) (close-unspent accepted (isTicketLine ticket) refl) book ∙ b .unspent
@@ -180,11 +183,11 @@ step-books start (Ended cookie) older o all b = close-books start (Ended cookie)
 step-books start (Opened cookie user signed lt) older o all b = enter-books start (Opened cookie user signed lt) older _ b (λ k. omega arith) refl refl (sessionLine cookie user (notebook start older .clock)) (o .new) refl refl
 step-books start (Issued cookie service ticket signed lt) older o all b =
     rw (o .line)
-      (ticket-books start (Issued cookie service ticket signed lt) older _ b (λ k. omega arith) refl refl (lineUnder 3 ticket 0 service [] signed [] [] (notebook start older .clock) (o .source)) (o .new) refl refl refl)
+    (ticket-books start (Issued cookie service ticket signed lt) older _ b (λ k. omega arith) refl refl (lineUnder 3 ticket 0 service [] signed [] [] (notebook start older .clock) (o .source)) (o .new) refl refl refl)
 step-books start (Proxied pgt target ticket) older o all b =
     rw (o .line)
-      (ticket-books start (Proxied pgt target ticket) older _ b (λ k. omega arith) refl refl (lineUnder 4 ticket 0 target (o .source .text ∷ o .source .chain) false [] [] (notebook start older .clock) (o .source))
-        (o .new) refl refl refl)
+    (ticket-books start (Proxied pgt target ticket) older _ b (λ k. omega arith) refl refl (lineUnder 4 ticket 0 target (o .source .text ∷ o .source .chain) false [] [] (notebook start older .clock) (o .source))
+    (o .new) refl refl refl)
 step-books start (Burnt ticket) older o all b = close-books start (Burnt ticket) older _ b (λ k. omega arith) refl refl burnt _ refl refl refl
 step-books start (Welcomed v renew ticket service said) older o all b =
     let s = seen (isTicketLine ticket) (notebook start older .book) (o .ticket-line) (o .line) in
@@ -203,25 +206,25 @@ step-books start (CalledBack v renew ticket service url pgt iou serial) older o 
     let n : o .ticket-line .name ≡ ticket = its-name start older _ b ticket (o .ticket-line) (s .0) (s .1) (s .2) in
     let x : Line = lineUnder 5 pgt serial url (o .ticket-line .chain) false (o .ticket-line .name) iou (notebook start older .clock) (o .ticket-line) in
     rw (o .line)
-      (record {
-        owing =
+    (record {
+      owing =
           re-wins _ _ _ (λ k. omega arith)
-            (pay-enter _ _ (just ticket) x (new-closed accepted (isTicketLine ticket) (notebook start older .book) pgt (o .new)) (λ k. rw n (omega arith))
-              (accept-owing start older _ b ticket (o .ticket-line) (s .0) (s .1) (s .2)));
-        all = omega (arith, accept-all start older _ b ticket (o .ticket-line) (s .0) (s .1) (s .2));
-        acc = omega (arith, accept-acc start older _ b ticket (o .ticket-line) (s .0) (s .1) (s .2));
-        unspent = omega (arith, accept-unspent start older _ b ticket (o .ticket-line) (s .0) (s .1) (s .2));
-      })
+          (pay-enter _ _ (just ticket) x (new-closed accepted (isTicketLine ticket) (notebook start older .book) pgt (o .new)) (λ k. rw n (omega arith))
+          (accept-owing start older _ b ticket (o .ticket-line) (s .0) (s .1) (s .2)));
+      all = omega (arith, accept-all start older _ b ticket (o .ticket-line) (s .0) (s .1) (s .2));
+      acc = omega (arith, accept-acc start older _ b ticket (o .ticket-line) (s .0) (s .1) (s .2));
+      unspent = omega (arith, accept-unspent start older _ b ticket (o .ticket-line) (s .0) (s .1) (s .2));
+    })
 step-books start (Settled serial true said) older o all b =
     let s = seen (isWaitingLine serial) (notebook start older .book) (o .waiting-line) (o .line) in
     let w = both (eqb (o .waiting-line .kind) aWaiting) (eqb (o .waiting-line .ref) serial) (s .2) in
     let c = waiting-of start older all serial (o .waiting-line) (o .line) in
     record {
       owing =
-        re-wins _ _ _ (λ k. rw c (ones (same (o .waiting-line .origin) k) (successes start older k)))
+          re-wins _ _ _ (λ k. rw c (ones (same (o .waiting-line .origin) k) (successes start older k)))
           (pay-win _ _ (just (o .waiting-line .origin))
-            (pay (notebook start older .book) _ (raiseLine (isWaitingLine serial)) (just (o .waiting-line .origin)) (raise-less (isWaitingLine serial)) (raise-name (isWaitingLine serial)) (o .waiting-line) (s .0)
-              (raise-pays (isWaitingLine serial) (o .waiting-line) (s .1) (s .2) (w .0)) (b .owing)));
+          (pay (notebook start older .book) _ (raiseLine (isWaitingLine serial)) (just (o .waiting-line .origin)) (raise-less (isWaitingLine serial)) (raise-name (isWaitingLine serial)) (o .waiting-line) (s .0)
+          (raise-pays (isWaitingLine serial) (o .waiting-line) (s .1) (s .2) (w .0)) (b .owing)));
       all = omega (arith, b .all, tally-same anyFate (raiseLine (isWaitingLine serial)) (raise-kind serial anyFate) (notebook start older .book));
       acc = omega (arith, b .acc, tally-same isAccepted (raiseLine (isWaitingLine serial)) (raise-kind serial isAccepted) (notebook start older .book));
       unspent = tally-same isSpent (raiseLine (isWaitingLine serial)) (raise-kind serial isSpent) (notebook start older .book) ∙ b .unspent;
@@ -236,10 +239,10 @@ step-books start (Settled serial false said) older o all b =
     let c = waiting-of start older all serial (o .waiting-line) (o .line) in
     record {
       owing =
-        re-wins _ _ _ (λ k. rw c (ones (same (o .waiting-line .origin) k) (successes start older k)))
+          re-wins _ _ _ (λ k. rw c (ones (same (o .waiting-line .origin) k) (successes start older k)))
           (pay-win _ _ (just (o .waiting-line .origin))
-            (pay (notebook start older .book) _ (closeLine spent (isWaitingLine serial)) (just (o .waiting-line .origin)) (close-less spent (isWaitingLine serial) refl) (close-name spent (isWaitingLine serial)) (o .waiting-line) (s .0)
-              (wait-pays spent (isWaitingLine serial) refl (o .waiting-line) (s .1) (s .2) (w .0)) (b .owing)));
+          (pay (notebook start older .book) _ (closeLine spent (isWaitingLine serial)) (just (o .waiting-line .origin)) (close-less spent (isWaitingLine serial) refl) (close-name spent (isWaitingLine serial)) (o .waiting-line) (s .0)
+          (wait-pays spent (isWaitingLine serial) refl (o .waiting-line) (s .1) (s .2) (w .0)) (b .owing)));
       all = omega (arith, b .all, tally-same anyFate (closeLine spent (isWaitingLine serial)) (close-all spent (isWaitingLine serial)) (notebook start older .book));
       acc = omega (arith, b .acc, tally-same isAccepted (closeLine spent (isWaitingLine serial)) (close-other spent (isWaitingLine serial) (waiting-other serial) isAccepted) (notebook start older .book));
       unspent = tally-same isSpent (closeLine spent (isWaitingLine serial)) (close-other spent (isWaitingLine serial) (waiting-other serial) isSpent) (notebook start older .book) ∙ b .unspent;
@@ -264,6 +267,7 @@ waiting-weigh c (a ∷ A) h = ap₂ _+_ (go (case (alive c (a .r)))) (waiting-we
     ones : (z : Bool) → when z 1 ≡ one z
     ones true = refl
     ones false = refl
+
     go : Case (alive c (a .r)) → weight c (λ e. when (isTicket (e .kind)) 1) a ≡ one (isTicket (a .r .kind) && live c (a .r))
     go (is z) = rw (z, h 0 z, both (not (eqb (a .r .kind) 0)) (ltb c (a .r .expiry)) z .1, and-yes (isTicket (a .r .kind))) (ones (isTicket (a .r .kind)))
     go (isnt z) = rw z (dead (case (isTicket (a .r .kind))))
@@ -274,6 +278,7 @@ waiting-weigh c (a ∷ A) h = ap₂ _+_ (go (case (alive c (a .r)))) (waiting-we
             some : (k : ℕ) → isTicket k ≡ true → eqb k 0 ≡ false
             some zero t = absurd (clash t refl)
             some (suc k) t = borrow.Author.Tests.ne-eqb (suc k) 0 (λ e. omega arith)
+
             late : Case (ltb c (a .r .expiry)) → 0 ≡ one (ltb c (a .r .expiry))
             late (is l) = absurd (clash {b = alive c (a .r)} (rw (some (a .r .kind) t, l)) z)
             late (isnt l) = rw l

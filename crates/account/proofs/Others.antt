@@ -54,17 +54,17 @@ module _ (start : ℕ) (h : List Item) (t : Table) (R : Reached start h t) (a : 
   unfolding proxyWith replyAnswer
   proxied-ok e m =
       ok-by start h path.Proxy _ (Proxied (fromQuery "pgt" q) (fromQuery "targetService" q) (nameOf new) ∷ []) _ proxied-said
-        (record { reached = reach-proxy start h t R m (fromQuery "pgt" q) e (fromQuery "targetService" q) (a .random); issues = refl; accepts-eq = refl })
+      (record { reached = reach-proxy start h t R m (fromQuery "pgt" q) e (fromQuery "targetService" q) (a .random); issues = refl; accepts-eq = refl })
 
   proxy-ok : X (proxy q (bring a) t)
   unfolding proxy proxyBy
   proxy-ok =
       fork X (malformed false proxyNames q || isEmpty (fromQuery "pgt" q) || isEmpty (fromQuery "targetService" q)) (λ z. unproxied-ok InvalidRequest)
-        (λ z.
-          fork X (eqb k 0) (λ z. unproxied-ok BadPgt)
-            (λ e.
-              fork X (registered (fromQuery "targetService" q) (decodeRegister (a .register)))
-                (λ z. fork X (roomFor 1 t) (λ r. proxied-ok e (room-one t r)) (λ r. unproxied-ok InternalError)) (λ z. unproxied-ok UnauthorizedService)))
+      (λ z.
+      fork X (eqb k 0) (λ z. unproxied-ok BadPgt)
+      (λ e.
+      fork X (registered (fromQuery "targetService" q) (decodeRegister (a .register)))
+      (λ z. fork X (roomFor 1 t) (λ r. proxied-ok e (room-one t r)) (λ r. unproxied-ok InternalError)) (λ z. unproxied-ok UnauthorizedService)))
 
   -- logout
   abbrev O : Step → Type 0
@@ -78,7 +78,7 @@ module _ (start : ℕ) (h : List Item) (t : Table) (R : Reached start h t) (a : 
   unfolding logout replyAnswer
   logout-ok =
       fork O (malformed false logoutNames q) (λ z. record { reached = R; issues = refl; accepts-eq = refl })
-        (λ z. record { reached = ended-table; issues = refl; accepts-eq = refl })
+      (λ z. record { reached = ended-table; issues = refl; accepts-eq = refl })
 
 -- a page that says nothing of tickets
 module _ (start : ℕ) (h : List Item) (t : Table) (R : Reached start h t) (a : Asked) where

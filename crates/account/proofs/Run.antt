@@ -87,7 +87,7 @@ module _ (start : ℕ) (h : List Item) (b : Text) (R : Reached start h (decodeTa
       let o = stepped in
       record {
         reached =
-          rw (read-delivered (ask a) s (a .out) (a .cookieOut), back (s .table) (step-sound i (passed i e)), append-assoc items (PassedAt (a .time) ∷ []) h) (o .reached);
+            rw (read-delivered (ask a) s (a .out) (a .cookieOut), back (s .table) (step-sound i (passed i e)), append-assoc items (PassedAt (a .time) ∷ []) h) (o .reached);
         issues = rw (read-delivered (ask a) s (a .out) (a .cookieOut)) (omega (arith, o .issues, sum-append issuesIn items (PassedAt (a .time) ∷ [])));
         accepts-eq = rw (read-delivered (ask a) s (a .out) (a .cookieOut)) (omega (arith, o .accepts-eq, sum-append acceptsIn items (PassedAt (a .time) ∷ [])));
       }
@@ -128,7 +128,7 @@ module _ (start : ℕ) (h : List Item) (b : Text) (R : Reached start h (decodeTa
       let n = no-counts (replyAnswer (s .reply)) (replyText (s .reply)) in
       record {
         reached =
-          rw (read-delivered (tell f) s (f .out) [], back (s .table) (finish-sound (f .serial) (f .outcome) t (finish-started e)), append-assoc items (PassedAt (f .time) ∷ []) h)
+            rw (read-delivered (tell f) s (f .out) [], back (s .table) (finish-sound (f .serial) (f .outcome) t (finish-started e)), append-assoc items (PassedAt (f .time) ∷ []) h)
             (finish-ok start (PassedAt (f .time) ∷ h) t (reach-pass start h (decodeTable b) R (f .time)) f);
         issues = rw (read-delivered (tell f) s (f .out) []) (omega (arith, n .0, sum-append issuesIn items (PassedAt (f .time) ∷ [])));
         accepts-eq = rw (read-delivered (tell f) s (f .out) []) (omega (arith, n .1, sum-append acceptsIn items (PassedAt (f .time) ∷ [])));
@@ -138,7 +138,7 @@ module _ (start : ℕ) (h : List Item) (b : Text) (R : Reached start h (decodeTa
   unfolding finishOf
   tell-after =
       fork (After start h (tell f)) (eqb (finishRefusal b (f .time) (length (f .out))) 0) (λ e. told (eqb-true (finishRefusal b (f .time) (length (f .out))) 0 e))
-        (λ e. refused start h (tell f) (finishRefusal b (f .time) (length (f .out))) b (f .out) [] e R)
+      (λ e. refused start h (tell f) (finishRefusal b (f .time) (length (f .out))) b (f .out) [] e R)
 
 call-after : (start : ℕ) (h : List Item) (b : Text) → Reached start h (decodeTable b) → (c : Call) → After start h c (served c b)
 unfolding served
@@ -191,15 +191,15 @@ start-tied n time =
       clock-is = refl;
       next-is = refl;
       sim =
-        record {
-          sums = λ f. free-weigh time f (suc n);
-          known = λ e m h. absurd (List·Memᴰ·not-nil m);
-          good = λ i l. absurd (none-lives time (suc n) i l);
-          one = λ i j l k e. absurd (none-lives time (suc n) i l);
-          old = λ e m. absurd (List·Memᴰ·not-nil m);
-          refs = λ e m. absurd (List·Memᴰ·not-nil m);
-          top = omega arith;
-        };
+          record {
+            sums = λ f. free-weigh time f (suc n);
+            known = λ e m h. absurd (List·Memᴰ·not-nil m);
+            good = λ i l. absurd (none-lives time (suc n) i l);
+            one = λ i j l k e. absurd (none-lives time (suc n) i l);
+            old = λ e m. absurd (List·Memᴰ·not-nil m);
+            refs = λ e m. absurd (List·Memᴰ·not-nil m);
+            top = omega arith;
+          };
     }
 
 not-refused : (old : Text) (time : ℕ) → formatOf old time .refusal ≡ 0 → formatRefusal (length old) time ≡ 0
@@ -219,4 +219,4 @@ started old time e =
     let q = both (leb 9 (length old / 512)) (leb (length old / 512) 128) (both (eqb (length old % 512) 0) (within 9 128 (length old / 512)) (p1 .0) .1) in
     let few : length old / 512 - 1 ≤ 127 = omega (arith, leb-true (length old / 512) 128 (q .1)) in
     rw (z, back (formatted (length old / 512 - 1) time) (formatted-sound (length old / 512 - 1) time few (leb-true time lastTime (p6 .0))))
-      (record { tied = start-tied (length old / 512 - 1) time; paid = tt })
+    (record { tied = start-tied (length old / 512 - 1) time; paid = tt })

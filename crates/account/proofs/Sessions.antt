@@ -96,19 +96,23 @@ module _ (L : Notebook) (t : Table) (w : Tied L t) (s : ℕ) (ls : lives (L .clo
     where
       g : Good (w .A) (w .n) (on (w .A) i)
       g = w .sim .good i l
+
       zero-other : eqb 0 s ≡ false
       zero-other = ne-eqb 0 s (λ e. omega (arith, some))
+
       -- the texts of two live sessions
       sessions : (j : ℕ) → lives (L .clock) (w .A) j ≡ true → same (nameOf (on (w .A) j .r)) (nameOf (on (w .A) s .r)) ≡ eqb j s
       sessions j lj =
           one-test (same (nameOf (on (w .A) j .r)) (nameOf (on (w .A) s .r))) (eqb j s)
-            (λ x.
-              eq-eqb j s
-                (w .sim .one j s lj ls
-                  (same-name L (w .A) (w .n) (w .sim) j s lj ls (w .sim .good j lj .name-eq ∙ same-eq (nameOf (on (w .A) j .r)) (nameOf (on (w .A) s .r)) x ∙ sym (w .sim .good s ls .name-eq)))))
-            (λ x. rw (eqb-true j s x) (same-refl (nameOf (on (w .A) s .r))))
+          (λ x.
+          eq-eqb j s
+          (w .sim .one j s lj ls
+          (same-name L (w .A) (w .n) (w .sim) j s lj ls (w .sim .good j lj .name-eq ∙ same-eq (nameOf (on (w .A) j .r)) (nameOf (on (w .A) s .r)) x ∙ sym (w .sim .good s ls .name-eq)))))
+          (λ x. rw (eqb-true j s x) (same-refl (nameOf (on (w .A) s .r))))
+
       other-slot : on (w .A) i .r .kind ≢ 2 → eqb i s ≡ false
       other-slot ne = ne-eqb i s (λ e. ne (rw e ks))
+
       go : Placed (w .A) (on (w .A) i) → (not (eqb (on (w .A) i .r .kind) aLogin) && same (on (w .A) i .e .session) (nameOf (on (w .A) s .r))) ≡ (eqb i s || eqb (on (w .A) i .r .session) s)
       go (login k x) = rw (k, x, zero-other, other-slot (λ e. omega arith))
       go (session k x n u v) = rw (k, x, zero-other, n, sessions i l) (or-none (eqb i s))
@@ -144,7 +148,7 @@ module _ (L : Notebook) (t : Table) (w : Tied L t) (s : ℕ) (ls : lives (L .clo
         clock-is = w .clock-is;
         next-is = w .next-is;
         sim =
-          sim-drop L (w .A) rest (w .n) (w .sim) goes (ofSession (nameOf (on (w .A) s .r))) ended refl (length-set (map (endS s) (w .A)) s noSlot ∙ length-map (w .A) (endS s)) rest-keep rest-gone
+            sim-drop L (w .A) rest (w .n) (w .sim) goes (ofSession (nameOf (on (w .A) s .r))) ended refl (length-set (map (endS s) (w .A)) s noSlot ∙ length-map (w .A) (endS s)) rest-keep rest-gone
             agree homes parents;
       }
 
@@ -161,11 +165,13 @@ module _ (L : Notebook) (t : Table) (w : Tied L t) (cookie : Text) where
     where
       m : Miss L (w .A) (isLine aSession cookie)
       m = miss-named L t w aSession cookie (omega arith) e
+
       -- no live session has that text, so nothing stands under it
       unnamed : (j : ℕ) → lives (L .clock) (w .A) j ≡ true → on (w .A) j .r .kind ≡ 2 → same (nameOf (on (w .A) j .r)) cookie ≡ false
       unnamed j lj k =
           let z = m .all j lj in
           rw (w .sim .good j lj .kind-eq, w .sim .good j lj .name-eq, k) at z
+
       all : (i : ℕ) → lives (L .clock) (w .A) i ≡ true → ofSession cookie (on (w .A) i .e) ≡ false
       all i l = rw (w .sim .good i l .kind-eq) (go (w .sim .good i l .placed))
         where
@@ -175,6 +181,7 @@ module _ (L : Notebook) (t : Table) (w : Tied L t) (cookie : Text) where
           go (below k u) =
               let z : eqb (on (w .A) i .r .kind) aLogin ≡ false = ne-eqb (on (w .A) i .r .kind) 1 (λ e. omega arith) in
               rw (z, u .sess-eq, unnamed (on (w .A) i .r .session) (home-lives (L .clock) (w .A) (on (w .A) i) u (alive-time (L .clock) (on (w .A) i .r) l)) (u .home))
+
       look-all : Rattle.account.specs.Notebook.look (ofSession cookie) (L .book) ≡ Rattle.account.specs.Notebook.nothing
       look-all = Rattle.account.proofs.Look.look-no L (w .A) (w .n) (w .sim) (ofSession cookie) all
 
@@ -281,12 +288,12 @@ tied-raise L t w serial e =
       A = set (w .A) k a;
       n = w .n;
       slots-are =
-        rw (raised-is L t w k)
+          rw (raised-is L t w k)
           (put-slots (t .slots) (w .A) k a (w .slots-are) (some-slot L t w k (h .live) (λ x. omega arith) (λ x. omega arith)));
       clock-is = w .clock-is;
       next-is = w .next-is;
       sim =
-        sim-change L (w .A) (w .n) (w .sim) k (live-inside (L .clock) (w .A) k (h .live)) (h .live) kind a
+          sim-change L (w .A) (w .n) (w .sim) k (live-inside (L .clock) (w .A) k (h .live)) (h .live) kind a
           (raised-alive (w .A) (w .n) (on (w .A) k) g kind (L .clock) (alive-time (L .clock) (on (w .A) k .r) (h .live)))
           (raised-serial (w .A) (w .n) (on (w .A) k) g kind)
           (raiseLine (isWaitingLine serial)) (λ x z. rw (z, z)) (rw (g .fate-eq, h .picked))

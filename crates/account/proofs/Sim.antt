@@ -191,7 +191,6 @@ module _ (L : Notebook) (d : ℕ) (A B : List Slot) (n : ℕ) (S : Sim L A n) (g
     (closed : (e : Line) → isHeld (e .fate) ≡ false → isHeld (g e .fate) ≡ false)
     (names : (e : Line) → g e .name ≡ e .name) (numbers : (e : Line) → g e .ref ≡ e .ref)
     (len : length B ≡ length A) (turn : (i : ℕ) → Turn (L .clock) d A B g i) where
-
   turn-weight : (f : Line → ℕ) (i : ℕ) → weight d f (on B i) ≡ weight (L .clock) (λ e. heft f (g e)) (on A i)
   turn-weight f i = go (turn i)
     where
@@ -210,6 +209,7 @@ module _ (L : Notebook) (d : ℕ) (A B : List Slot) (n : ℕ) (S : Sim L A n) (g
           go₂ i l ea (stays _ b _ eb _) = (i, b, eb ∙ ap g ea ∙ ga)
           go₂ i l ea (goes _ _ z) = absurd (clash h (rw (← ga, ← ea) z))
           go₂ i l ea (never z _) = absurd (clash l z)
+
           go₁ : Case (isHeld (a .fate)) → (i : ℕ) × (lives d B i ≡ true) × (on B i .e ≡ e)
           go₁ (is x) = let w = S .known a ma x in go₂ (w .0) (w .1) (w .2) (turn (w .0))
           go₁ (isnt x) = absurd (clash h (rw (← ga) (closed a x)))

@@ -48,7 +48,7 @@ tied-none L t w q F hF m =
       clock-is = w .clock-is;
       next-is = w .next-is;
       sim =
-        sim-drop L (w .A) (w .A) (w .n) (w .sim) (λ i. false) q F hF refl (λ i z. refl) (λ i z. absurd (clash z refl)) (λ i l. m .all i l) (λ i l u z. refl)
+          sim-drop L (w .A) (w .A) (w .n) (w .sim) (λ i. false) q F hF refl (λ i z. refl) (λ i z. absurd (clash z refl)) (λ i l. m .all i l) (λ i l u z. refl)
           (λ i k l u e z. refl);
     }
 
@@ -81,20 +81,23 @@ module _ (L : Notebook) (t : Table) (w : Tied L t) (k : ℕ) (lk : lives (L .clo
   other-parent a j u e = ne-eqb (suc j) k (λ x. ng (rw x at (up-grants (w .A) _ _ _ j (u .line) e .0)))
 
   pub tied-removed : (q : Line → Bool) (F : Fate) → isHeld F ≡ false → q (on (w .A) k .e) ≡ true
-    → ((j : ℕ) → lives (L .clock) (w .A) j ≡ true → j ≢ k → q (on (w .A) j .e) ≡ false)
-    → (v : Tied (closeAll F q L) (remove k t)) × (v .A ≡ set (w .A) k noSlot) × (v .n ≡ w .n)
+      → ((j : ℕ) → lives (L .clock) (w .A) j ≡ true → j ≢ k → q (on (w .A) j .e) ≡ false)
+      → (v : Tied (closeAll F q L) (remove k t)) × (v .A ≡ set (w .A) k noSlot) × (v .n ≡ w .n)
   unfolding closeAll spent
-  tied-removed q F hF picked others =
-      (record {
-        A = spent;
-        n = w .n;
-        slots-are = put-slots (t .slots) (w .A) k noSlot (w .slots-are) some-slot;
-        clock-is = w .clock-is;
-        next-is = w .next-is;
-        sim =
+  tied-removed q F hF picked others = (
+    record {
+      A = spent;
+      n = w .n;
+      slots-are = put-slots (t .slots) (w .A) k noSlot (w .slots-are) some-slot;
+      clock-is = w .clock-is;
+      next-is = w .next-is;
+      sim =
           sim-drop L (w .A) spent (w .n) (w .sim) (λ i. eqb i k) q F hF (length-set (w .A) k noSlot) spent-keep spent-gone agree
-            (λ i l u z. other-home (on (w .A) i) u) (λ i j l u e z. other-parent (on (w .A) i) j u e);
-      }, refl, refl)
+          (λ i l u z. other-home (on (w .A) i) u) (λ i j l u e z. other-parent (on (w .A) i) j u e);
+    },
+    refl,
+    refl,
+  )
     where
       agree : (i : ℕ) → lives (L .clock) (w .A) i ≡ true → q (on (w .A) i .e) ≡ eqb i k
       agree i l = go (ℕ-discrete i k)
@@ -104,7 +107,7 @@ module _ (L : Notebook) (t : Table) (w : Tied L t) (k : ℕ) (lk : lives (L .clo
           go (no ne) = others i l ne ∙ sym (ne-eqb i k ne)
 
   pub tied-remove : (q : Line → Bool) (F : Fate) → isHeld F ≡ false → q (on (w .A) k .e) ≡ true
-    → ((j : ℕ) → lives (L .clock) (w .A) j ≡ true → j ≢ k → q (on (w .A) j .e) ≡ false) → Tied (closeAll F q L) (remove k t)
+      → ((j : ℕ) → lives (L .clock) (w .A) j ≡ true → j ≢ k → q (on (w .A) j .e) ≡ false) → Tied (closeAll F q L) (remove k t)
   tied-remove q F hF picked others = tied-removed q F hF picked others .0
 
   -- what was said of it still holds of its session and parents
@@ -112,9 +115,9 @@ module _ (L : Notebook) (t : Table) (w : Tied L t) (k : ℕ) (lk : lives (L .clo
   spent-good =
       let g = w .sim .good k lk in
       good-move (w .A) (set (w .A) k noSlot) (w .n) (w .n) (on (w .A) k) (omega arith)
-        (λ h. getD-set-other (w .A) k (on (w .A) k .r .session) noSlot noSlot (eqb-false _ k (other-home (on (w .A) k) (under-of (w .A) (on (w .A) k) (g .placed) h))))
-        (λ h j e. getD-set-other (w .A) k (suc j) noSlot noSlot (eqb-false (suc j) k (other-parent (on (w .A) k) j (under-of (w .A) (on (w .A) k) (g .placed) h) e)))
-        g
+      (λ h. getD-set-other (w .A) k (on (w .A) k .r .session) noSlot noSlot (eqb-false _ k (other-home (on (w .A) k) (under-of (w .A) (on (w .A) k) (g .placed) h))))
+      (λ h j e. getD-set-other (w .A) k (suc j) noSlot noSlot (eqb-false (suc j) k (other-parent (on (w .A) k) j (under-of (w .A) (on (w .A) k) (g .placed) h) e)))
+      g
 
 -- A record is added in the slot that is found free
 pub serial-is : (L : Notebook) (t : Table) (w : Tied L t) → 1 ≤ t .next → (t .next ≡ w .n) × (w .n < 4294967296)
@@ -135,7 +138,7 @@ tied-add L t w m a la sa ra ga =
       clock-is = w .clock-is;
       next-is = ap (λ (x : ℕ). (x + 1) % 4294967296) (s .0) ∙ ap (λ (x : ℕ). x % 4294967296) (omega arith);
       sim =
-        sim-put L (w .A) (w .n) (w .sim) (slotFor t) (omega (arith, size-is L t w, m .within)) (free-dead (L .clock) (on (w .A) (slotFor t) .r) (rw (rec-on L t w (slotFor t)) at (m .free)))
+          sim-put L (w .A) (w .n) (w .sim) (slotFor t) (omega (arith, size-is L t w, m .within)) (free-dead (L .clock) (on (w .A) (slotFor t) .r) (rw (rec-on L t w (slotFor t)) at (m .free)))
           a la sa ra (s .1) ga;
     }
 
@@ -173,16 +176,18 @@ sim-clear : (L : Notebook) (A : List Slot) (n : ℕ) → Sim L A n → Sim L (ma
 unfolding closeAll clearS
 sim-clear L A n S =
     let s =
-          sim-drop L A (map (clearS (L .clock)) A) n S (λ i. not (ltb (L .clock) (on A i .r .expiry))) (λ (e : Line). false) expired refl (length-map A (clearS (L .clock))) keep gone
-            (λ i l. sym (rw (fresh i l)))
-            (λ i l u z. rw (fresh _ (home-lives (L .clock) A (on A i) u (alive-time (L .clock) (on A i .r) l))))
-            (λ i k l u e z. rw (fresh (suc k) (parent-lives (L .clock) A (on A i) k u (alive-time (L .clock) (on A i .r) l) e))) in
+    sim-drop L A (map (clearS (L .clock)) A) n S (λ i. not (ltb (L .clock) (on A i .r .expiry))) (λ (e : Line). false) expired refl (length-map A (clearS (L .clock))) keep gone
+    (λ i l. sym (rw (fresh i l)))
+    (λ i l u z. rw (fresh _ (home-lives (L .clock) A (on A i) u (alive-time (L .clock) (on A i .r) l))))
+    (λ i k l u e z. rw (fresh (suc k) (parent-lives (L .clock) A (on A i) k u (alive-time (L .clock) (on A i .r) l) e))) in
     rw (close-none expired (L .book)) at s
   where
     fresh : (i : ℕ) → lives (L .clock) A i ≡ true → ltb (L .clock) (on A i .r .expiry) ≡ true
     fresh i l = lt-ltb (L .clock) (on A i .r .expiry) (alive-time (L .clock) (on A i .r) l)
+
     keep : (i : ℕ) → not (ltb (L .clock) (on A i .r .expiry)) ≡ false → on (map (clearS (L .clock)) A) i ≡ on A i
     keep i z = on-clear (L .clock) A i ∙ rw (not-false (ltb (L .clock) (on A i .r .expiry)) z)
+
     gone : (i : ℕ) → not (ltb (L .clock) (on A i .r .expiry)) ≡ true → lives (L .clock) (map (clearS (L .clock)) A) i ≡ false
     gone i z = rw (on-clear (L .clock) A i, not-true (ltb (L .clock) (on A i .r .expiry)) z)
 

@@ -78,7 +78,7 @@ pub name-letters : (r : Rec) → 1 ≤ r .kind → r .kind ≤ 6 → letters (na
 unfolding nameOf ticketText letters letter
 name-letters r l h =
     letters-append (prefix (r .kind)) _ (prefix-letters (r .kind) l h)
-      (letters-append (decimal (r .serial)) _ (digits-letters (decimal (r .serial)) (digits-within 20 (r .serial))) (hex-letters (take (secretLength (r .kind)) (r .secret))))
+    (letters-append (decimal (r .serial)) _ (digits-letters (decimal (r .serial)) (digits-within 20 (r .serial))) (hex-letters (take (secretLength (r .kind)) (r .secret))))
 
 unlike : (b x : ℕ) → letter b ≡ true → letter x ≡ false → eqb b x ≡ false
 unlike b x p q = ne-eqb b x (λ e. clash (rw e at p) q)
@@ -89,7 +89,7 @@ escaped-letters [] h = refl
 escaped-letters (b ∷ s) h =
     let w = both (letter b) (letters s) h in
     rw (unlike b 38 (w .0) refl, unlike b 60 (w .0) refl, unlike b 62 (w .0) refl, unlike b 34 (w .0) refl, unlike b 39 (w .0) refl)
-      (ap (λ (l : List ℕ). b ∷ l) (escaped-letters s (w .1)))
+    (ap (λ (l : List ℕ). b ∷ l) (escaped-letters s (w .1)))
 
 upTo-letters : (x : ℕ) (s r : List ℕ) → letter x ≡ false → letters s ≡ true → upTo x (s ++ (x ∷ r)) ≡ s
 unfolding letters upTo
@@ -156,8 +156,8 @@ unfolding callbackText
 behind-pgt url pgt iou =
     let e : length url + 7 + length pgt + 8 ≡ length url + suc (6 + (length pgt + 8)) = omega arith in
     rw e (past-address url (6 + (length pgt + 8)) (ascii "pgtId=" ++ (pgt ++ (ascii "&pgtIou=" ++ iou)))
-        ∙ drop-append-add (ascii "pgtId=") (pgt ++ (ascii "&pgtIou=" ++ iou)) (length pgt + 8)
-        ∙ drop-append-add pgt (ascii "&pgtIou=" ++ iou) 8)
+    ∙ drop-append-add (ascii "pgtId=") (pgt ++ (ascii "&pgtIou=" ++ iou)) (length pgt + 8)
+    ∙ drop-append-add pgt (ascii "&pgtIou=" ++ iou) 8)
 
 pub iou-read : (url pgt iou : Text) → letters pgt ≡ true → iouIn url (callbackText url pgt iou) ≡ iou
 iou-read url pgt iou h = rw (pgt-read url pgt iou h) (behind-pgt url pgt iou)
@@ -167,7 +167,7 @@ pub proxy-read : (ticket : Text) → letters ticket ≡ true → proxyIn (proxyS
 unfolding proxySuccessText inResponse letter
 proxy-read ticket h =
     rw (append-assoc ticket (ascii "</cas:proxyTicket>\n  </cas:proxySuccess>\n") (ascii "</cas:serviceResponse>\n"))
-      (upTo-letters 60 ticket (ascii "/cas:proxyTicket>\n  </cas:proxySuccess>\n" ++ ascii "</cas:serviceResponse>\n") refl h)
+    (upTo-letters 60 ticket (ascii "/cas:proxyTicket>\n  </cas:proxySuccess>\n" ++ ascii "</cas:serviceResponse>\n") refl h)
 
 -- no ticket's text is empty
 text-some : (k s : ℕ) (x : List ℕ) → 1 ≤ k → k ≤ 6 → isEmpty (ticketText k s x) ≡ false

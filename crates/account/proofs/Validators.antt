@@ -69,7 +69,7 @@ module _ (start : ℕ) (h : List Item) (t : Table) (R : Reached start h t) (v : 
   failed-ok : (t′ : Table) (code : Code) → Reached start (Burnt ticket ∷ h) t′ → Goes (step t′ (failed v code))
   failed-ok t′ code R′ =
       ok-by start h (path.Validate v) _ (Burnt ticket ∷ []) _ (failure-said v code)
-        (record { reached = R′; issues = rw (failure-carries v v code); accepts-eq = rw (failure-counts v code) })
+      (record { reached = R′; issues = rw (failure-carries v v code); accepts-eq = rw (failure-counts v code) })
 
   -- the ticket in slot k is shown
   module _ (e : eqb (ticketSlot (fromQuery "ticket" q) t) 0 ≡ false) where
@@ -108,7 +108,7 @@ module _ (start : ℕ) (h : List Item) (t : Table) (R : Reached start h t) (v : 
       waiting = newRec aWaiting 0 (proxyParent r) (r .session) (recAt (proxyParent r) (t′ .slots) .depth + 1) url (g .random) t′
 
       callback-said : readValidator v q (replyAnswer (CallbackTo (waiting .text) (nameOf waiting) (iouText (waiting .iou)) (waiting .serial))) (replyText (CallbackTo (waiting .text) (nameOf waiting) (iouText (waiting .iou)) (waiting .serial)))
-        ≡ CalledBack v renew ticket service url (nameOf waiting) (iouText (waiting .iou)) (waiting .serial) ∷ []
+          ≡ CalledBack v renew ticket service url (nameOf waiting) (iouText (waiting .iou)) (waiting .serial) ∷ []
       unfolding replyAnswer replyText readValidator newRec
       callback-said =
           let l = new-letters aWaiting 0 (proxyParent r) (r .session) (recAt (proxyParent r) (t′ .slots) .depth + 1) url (g .random) t′ (omega arith) (omega arith) in
@@ -118,34 +118,34 @@ module _ (start : ℕ) (h : List Item) (t : Table) (R : Reached start h t) (v : 
       unfolding waitingStep waitingWith replyAnswer
       callback-ok m =
           ok-by start h (path.Validate v) _ (CalledBack v renew ticket service url (nameOf waiting) (iouText (waiting .iou)) (waiting .serial) ∷ []) _ callback-said
-            (record { reached = reach-callback start h t R ticket e m v renew service url (g .random) right; issues = refl; accepts-eq = refl })
+          (record { reached = reach-callback start h t R ticket e m v renew service url (g .random) right; issues = refl; accepts-eq = refl })
 
       accept-ok : Goes (accepting v r url g t′)
       unfolding accepting grants
       accept-ok =
           fork Goes (isPlain v) plain-ok
-            (λ z.
-              fork Goes (not (isEmpty url) && same url (callbackOf (r .text) (g .register)) && leb (recAt (proxyParent r) (t′ .slots) .depth + 1) deepest && roomFor 1 t′)
-                (λ y. callback-ok (room-one t′ (both (not (isEmpty url) && same url (callbackOf (r .text) (g .register)) && leb (recAt (proxyParent r) (t′ .slots) .depth + 1) deepest) (roomFor 1 t′) y .1)))
-                (λ y. success-ok z))
+          (λ z.
+          fork Goes (not (isEmpty url) && same url (callbackOf (r .text) (g .register)) && leb (recAt (proxyParent r) (t′ .slots) .depth + 1) deepest && roomFor 1 t′)
+          (λ y. callback-ok (room-one t′ (both (not (isEmpty url) && same url (callbackOf (r .text) (g .register)) && leb (recAt (proxyParent r) (t′ .slots) .depth + 1) deepest) (roomFor 1 t′) y .1)))
+          (λ y. success-ok z))
 
   judged-ok : Goes (judging v (ticketSlot (fromQuery "ticket" q) t) q g t)
   unfolding judging
   judged-ok =
       fork Goes (eqb (ticketSlot ticket t) 0) (λ z. failed-ok t InvalidTicket (reach-unburnt start h t R ticket z))
-        (λ e.
-          fork Goes (eqb (recAt (ticketSlot ticket t) (t .slots) .kind) aProxy && not (takesProxies v)) (λ z. burnt-ok e InvalidTicket)
-            (λ p.
-              fork Goes (renew && eqb (recAt (ticketSlot ticket t) (t .slots) .mark) 0) (λ z. burnt-ok e InvalidTicket)
-                (λ m.
-                  fork Goes (same (recAt (ticketSlot ticket t) (t .slots) .text) service) (λ s. accept-ok e (right-line start h t R ticket e v renew service p m s))
-                    (λ z. burnt-ok e InvalidService))))
+      (λ e.
+      fork Goes (eqb (recAt (ticketSlot ticket t) (t .slots) .kind) aProxy && not (takesProxies v)) (λ z. burnt-ok e InvalidTicket)
+      (λ p.
+      fork Goes (renew && eqb (recAt (ticketSlot ticket t) (t .slots) .mark) 0) (λ z. burnt-ok e InvalidTicket)
+      (λ m.
+      fork Goes (same (recAt (ticketSlot ticket t) (t .slots) .text) service) (λ s. accept-ok e (right-line start h t R ticket e v renew service p m s))
+      (λ z. burnt-ok e InvalidService))))
 
   bad-ok : Ok start h (path.Validate v) [] (step t (failed v InvalidRequest))
   bad-ok = record { reached = R; issues = rw (failure-carries v v InvalidRequest); accepts-eq = rw (failure-counts v InvalidRequest) }
 
   by-request : (b : Bool)
-    → (let s = if b (step t (failed v InvalidRequest)) (presented v (ticketSlot ticket t) q g t) in Ok start h (path.Validate v) (if b [] (readValidator v q (replyAnswer (s .reply)) (replyText (s .reply)))) s)
+      → (let s = if b (step t (failed v InvalidRequest)) (presented v (ticketSlot ticket t) q g t) in Ok start h (path.Validate v) (if b [] (readValidator v q (replyAnswer (s .reply)) (replyText (s .reply)))) s)
   by-request true = bad-ok
   by-request false = subst Goes (sym (presented-is v (ticketSlot ticket t) q g t)) judged-ok
 
@@ -170,7 +170,7 @@ module _ (start : ℕ) (h : List Item) (t : Table) (R : Reached start h t) (f : 
     waits = recAt slot (t .slots)
 
     settled-yes : f .outcome ≡ true
-      → F (step (put slot (granted waits (t .slots)) t) (Success (recAt (waits .session) (t .slots) .text) (iouText (waits .iou)) (chainOf (waits .parent) (t .slots))))
+        → F (step (put slot (granted waits (t .slots)) t) (Success (recAt (waits .session) (t .slots) .text) (iouText (waits .iou)) (chainOf (waits .parent) (t .slots))))
     unfolding replyAnswer replyText readFinish
     settled-yes z =
         rw z (reach-granted start h t R (f .serial) e _ (settle-owes start h t R (f .serial) e true (successText (recAt (waits .session) (t .slots) .text) (iouText (waits .iou)) (chainOf (waits .parent) (t .slots))) refl))

@@ -143,8 +143,8 @@ Honest start (i ∷ older) = Owed start i older × Honest start older
 pub record Account (start : ℕ) (h : List Event) (b : Text) : Type 0 where
   -- every ticket issued is accounted for
   pub balance :
-    issued h
-    ≡ accepted h + tally isBurnt (notebook start (trailOf h) .book) + tally isEnded (notebook start (trailOf h) .book) + tally isExpired (notebook start (trailOf h) .book) + waitingIn b
+      issued h
+      ≡ accepted h + tally isBurnt (notebook start (trailOf h) .book) + tally isEnded (notebook start (trailOf h) .book) + tally isExpired (notebook start (trailOf h) .book) + waitingIn b
   -- no ticket gets two success answers
   pub once : (x : Text) → successes start (trailOf h) x ≤ 1
   -- every acceptance and every success answer is right: service, credentials, user and chain
