@@ -52,7 +52,7 @@ owed start (Passed time) older all o = tt
 owed start (Showed lt) older all o = tt
 owed start (Spent lt) older all o = tt
 owed start (Ended cookie) older all o = tt
-owed start (Opened cookie user) older all o = tt
+owed start (Opened cookie user signed lt) older all o = (o .said-yes, o .live)
 owed start (Issued cookie service ticket signed lt) older all o = tt
 owed start (Proxied pgt target ticket) older all o = tt
 owed start (Burnt ticket) older all o = tt
@@ -177,7 +177,7 @@ step-books start (Passed time) older o all b = close-books start (Passed time) o
 step-books start (Showed lt) older o all b = enter-books start (Showed lt) older _ b (λ k. omega arith) refl refl (loginLine lt (notebook start older .clock)) o refl refl
 step-books start (Spent lt) older o all b = other-books start (Spent lt) older _ b (λ k. omega arith) refl refl spent (isLine aLogin lt) refl (login-other lt)
 step-books start (Ended cookie) older o all b = close-books start (Ended cookie) older _ b (λ k. omega arith) refl refl ended _ refl refl refl
-step-books start (Opened cookie user) older o all b = enter-books start (Opened cookie user) older _ b (λ k. omega arith) refl refl (sessionLine cookie user (notebook start older .clock)) o refl refl
+step-books start (Opened cookie user signed lt) older o all b = enter-books start (Opened cookie user signed lt) older _ b (λ k. omega arith) refl refl (sessionLine cookie user (notebook start older .clock)) (o .new) refl refl
 step-books start (Issued cookie service ticket signed lt) older o all b =
     rw (o .line)
       (ticket-books start (Issued cookie service ticket signed lt) older _ b (λ k. omega arith) refl refl (lineUnder 3 ticket 0 service [] signed [] [] (notebook start older .clock) (o .source)) (o .new) refl refl refl)

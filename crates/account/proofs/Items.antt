@@ -28,7 +28,7 @@ use Rattle.account.proofs.Look.{recOf, Tied, rec-on, Hit, Miss, isTicke
 use Rattle.account.proofs.Tables.{put-slots, tied-none, tied-remove, tied-removed, some-slot, spent-good, tied-pass}
 use Rattle.account.proofs.Sessions.{end-some, end-none, tied-raise}
 use Rattle.account.proofs.Making.{New, NewRef, new-text, new-ref, tied-login, tied-session, Source, session-source, under-source, tied-under}
-use Rattle.account.proofs.Reached.{OwesIssue, RightLine, OwesWelcome, OwesCallback, OwesSettle, Owes, AllOwes, Reached}
+use Rattle.account.proofs.Reached.{OwesIssue, OwesOpen, RightLine, OwesWelcome, OwesCallback, OwesSettle, Owes, AllOwes, Reached}
 use Rattle.account.proofs.Chains.{user-ok, chain-ok, depth-ok, ticket-up, waiting-up}
 
 -- a table as it was, put together again
@@ -76,13 +76,18 @@ module _ (start : ℕ) (h : List Item) (t : Table) (R : Reached start h t) where
   unfolding notebook note
   reach-unended cookie e = record { tied = end-none L t (R .tied) cookie e; paid = (tt, R .paid) }
 
-  pub reach-open : Room t → (user random : List ℕ)
-    → Reached start (Opened (nameOf (newRec aSession 0 0 0 0 user random t)) user ∷ h) (add (newRec aSession 0 0 0 0 user random t) t)
+  pub reach-open : Room t → (user random : List ℕ) (signed : Bool) (lt : Text) → signed ≡ true → spentLive start h lt ≡ true
+    → Reached start (Opened (nameOf (newRec aSession 0 0 0 0 user random t)) user signed lt ∷ h) (add (newRec aSession 0 0 0 0 user random t) t)
   unfolding notebook note newRec
-  reach-open m user random =
+  reach-open m user random signed lt yes-said live =
       record {
         tied = tied-session L t (R .tied) m user random;
-        paid = (new-text L t (R .tied) (m .serial) (newRec aSession 0 0 0 0 user random t) refl (omega arith) (omega arith), R .paid);
+        paid =
+          (record {
+            new = new-text L t (R .tied) (m .serial) (newRec aSession 0 0 0 0 user random t) refl (omega arith) (omega arith);
+            said-yes = yes-said;
+            live = live;
+          }, R .paid);
       }
 
   -- a service ticket under the session in slot s, which the cookie names

@@ -11,6 +11,7 @@ pub mod Chains
 pub mod Items
 pub mod Texts
 pub mod Counts
+pub mod Same
 pub mod LoginGet
 pub mod LoginPost
 pub mod Validators

@@ -1,5 +1,5 @@
 -- login by POST: what its answer says is what it did to the table. Assumes nothing.
-use mathlib.Core.Path.{_≡_, refl, sym, ap, _∙_}
+use mathlib.Core.Path.{_≡_, refl, sym, ap, _∙_, subst}
 use mathlib.Core.Bool.{Bool, true, false, not, _&&_, _||_}
 use mathlib.Core.List.{List, [], _∷_, _++_}
 use Prim.Native.Nat.{ℕ, zero, suc, _+_, _≤_, _<_}
@@ -20,6 +20,7 @@ use Rattle.protocol.proofs.Laws.{both, same-refl}
 use Rattle.protocol.proofs.Kept.{put-same}
 use Rattle.protocol.proofs.Added.{Room, room-one}
 use Rattle.account.specs.History.{Text, Asked}
+use Rattle.account.specs.Clauses.{admitting}
 use Rattle.account.specs.Reading.{Item, Showed, Spent, Ended, Opened, Issued, isForm, readSession, cookieAfter, readLoginPost, readPost}
 use Rattle.account.specs.Notebook.{notebook}
 use Rattle.account.specs.Truth.{spentLive}
@@ -29,6 +30,7 @@ use Rattle.account.proofs.Items.{reach-show, reach-spend, spend-live, r
 use Rattle.account.proofs.Texts.{append-assoc, letters, ticket-read, form-401, page-400, page-403, page-503, page-in}
 use Rattle.account.proofs.Counts.{Ok, ok-by, slot-named, issuesIn, acceptsIn, sumIn, sum-append, room-less, room-after}
 use Rattle.account.proofs.LoginGet.{bring, new-letters, new-some}
+use Rattle.account.proofs.Same.{accepted-is}
 
 module _ (start : ℕ) (h : List Item) (a : Asked) where
   abbrev P : Step → Type 0
@@ -114,14 +116,15 @@ module _ (start : ℕ) (h : List Item) (a : Asked) where
 
   -- the cookie of a new session
   after-new : (cookie : Text) → isEmpty cookie ≡ false
-    → (readSession a cookie false ≡ Opened cookie (fromBody "username" (a .body)) ∷ Ended (a .cookie) ∷ []) × (cookieAfter (a .cookie) cookie ≡ cookie)
+    → (readSession a cookie false ≡ Opened cookie (fromBody "username" (a .body)) (a .verdict) lt ∷ Ended (a .cookie) ∷ []) × (cookieAfter (a .cookie) cookie ≡ cookie)
   unfolding readSession
   after-new [] e = absurd (clash {b = true} refl e)
   after-new (b ∷ cookie) e = (refl, refl)
 
-  skip-session : (user cookie : Text) → spentLive start h lt ≡ true → spentLive start (Opened cookie user ∷ Ended (a .cookie) ∷ h) lt ≡ true
+  skip-session : (user cookie : Text) → spentLive start h lt ≡ true
+    → (spentLive start (Ended (a .cookie) ∷ h) lt ≡ true) × (spentLive start (Opened cookie user (a .verdict) lt ∷ Ended (a .cookie) ∷ h) lt ≡ true)
   unfolding spentLive
-  skip-session user cookie e = e
+  skip-session user cookie e = (e, e)
 
   -- signed in under a new session, after the old one has ended
   new-ok : (t : Table) → Reached start (Ended (a .cookie) ∷ h) t → a .verdict ≡ true → spentLive start h lt ≡ true
@@ -129,17 +132,17 @@ module _ (start : ℕ) (h : List Item) (a : Asked) where
   unfolding newSession needs
   new-ok t R yes-said live room =
       admitted-ok (add r t) (slotFor t) (nameOf r)
-        (rw (n .0) (reach-open start (Ended (a .cookie) ∷ h) t R first user (a .random)))
+        (rw (n .0) (reach-open start (Ended (a .cookie) ∷ h) t R first user (a .random) (a .verdict) lt yes-said (skip-session user (nameOf r) live .0)))
         (rw (n .1) (fresh-named t first user (a .random)))
         yes-said
-        (rw (n .0) (skip-session user (nameOf r) live))
+        (rw (n .0) (skip-session user (nameOf r) live .1))
         (λ z. room-one (add r t) (room-after r t (not-free t user (a .random)) first (rw z at room)))
     where
       user : Text
       user = fromBody "username" (a .body)
       r : Rec
       r = newRec aSession 0 0 0 0 user (a .random) t
-      n : (readSession a (nameOf r) false ≡ Opened (nameOf r) user ∷ Ended (a .cookie) ∷ []) × (cookieAfter (a .cookie) (nameOf r) ≡ nameOf r)
+      n : (readSession a (nameOf r) false ≡ Opened (nameOf r) user (a .verdict) lt ∷ Ended (a .cookie) ∷ []) × (cookieAfter (a .cookie) (nameOf r) ≡ nameOf r)
       n = after-new (nameOf r) (new-some aSession 0 0 0 0 user (a .random) t (omega arith) (omega arith))
       first : Room t
       first = room-one t (go (isEmpty service) refl)
@@ -175,11 +178,14 @@ module _ (start : ℕ) (h : List Item) (a : Asked) where
           (λ r. new-ok (endSession (sessionOf (a .cookie) t) t) E yes-said live r)
           (λ r. refused-ok (endSession (sessionOf (a .cookie) t) t) true E)
 
-    accepted-ok : P (accepted (sessionOf (a .cookie) t) user service (a .random) t)
-    unfolding accepted
-    accepted-ok =
+    admitting-ok : P (admitting (sessionOf (a .cookie) t) user service (a .random) t)
+    unfolding admitting
+    admitting-ok =
         fork P (eqb (sessionOf (a .cookie) t) 0) none-ok
           (λ e. fork P (same (recAt (sessionOf (a .cookie) t) (t .slots) .text) user) (λ z. kept-ok e) (λ z. ended-ok e))
+
+    accepted-ok : P (accepted (sessionOf (a .cookie) t) user service (a .random) t)
+    accepted-ok = subst P (sym (accepted-is (sessionOf (a .cookie) t) user service (a .random) t)) admitting-ok
 
 -- the login ticket is spent first
 module _ (start : ℕ) (h : List Item) (t : Table) (R : Reached start h t) (a : Asked) where

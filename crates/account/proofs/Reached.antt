@@ -24,6 +24,12 @@ pub record OwesIssue (start : ℕ) (older : List Item) (test : Line → Bool) (t
   pub new : New (notebook start older) ticket
   pub primary : signed ≡ true → spentLive start older lt ≡ true
 
+-- a session is opened by accepted credentials
+pub record OwesOpen (start : ℕ) (older : List Item) (cookie : Text) (signed : Bool) (lt : Text) : Type 0 where
+  pub new : New (notebook start older) cookie
+  pub said-yes : signed ≡ true
+  pub live : spentLive start older lt ≡ true
+
 -- an accepted ticket's line
 pub record RightLine (v : Validator) (renew : Bool) (service : Text) (x : Line) : Type 0 where
   pub text-is : x .text ≡ service
@@ -53,7 +59,7 @@ Owes start (Passed time) older = Unit {0}
 Owes start (Showed lt) older = New (notebook start older) lt
 Owes start (Spent lt) older = Unit {0}
 Owes start (Ended cookie) older = Unit {0}
-Owes start (Opened cookie user) older = New (notebook start older) cookie
+Owes start (Opened cookie user signed lt) older = OwesOpen start older cookie signed lt
 Owes start (Issued cookie service ticket signed lt) older = OwesIssue start older (isLine aSession cookie) ticket signed lt
 Owes start (Proxied pgt target ticket) older = OwesIssue start older (isLine aGrant pgt) ticket false []
 Owes start (Burnt ticket) older = Unit {0}

@@ -18,7 +18,7 @@ use Rattle.account.specs.Truth.{Origin, Granting, loginOrigin, grantOrig
 use Rattle.account.proofs.Base.{Case, is, isnt, case, clash, untrue}
 use Rattle.account.proofs.Look.{seen}
 use Rattle.account.proofs.Making.{New, NewRef}
-use Rattle.account.proofs.Reached.{OwesIssue, OwesWelcome, OwesCallback, OwesSettle, Owes, AllOwes}
+use Rattle.account.proofs.Reached.{OwesIssue, OwesOpen, OwesWelcome, OwesCallback, OwesSettle, Owes, AllOwes}
 
 abbrev pub isPgt : ℕ → Bool
 isPgt kind = eqb kind aWaiting || eqb kind aGrant
@@ -90,9 +90,9 @@ module _ (start : ℕ) (older : List Item) (book : List Line) (all : AllTraced s
   unlike : (x : Text) → ((e : Line) → List·Memᴰ e book → e .name ≢ x) → (e : Line) → List·Memᴰ e book → same x (e .name) ≡ false
   unlike x new e m = untrue (same x (e .name)) (λ z. new e m (sym (same-eq x (e .name) z)))
 
-  aged-open : (cookie user : Text) → ((e : Line) → List·Memᴰ e book → e .name ≢ cookie) → AllTraced start (Opened cookie user ∷ older) book
+  aged-open : (cookie user : Text) (signed : Bool) (lt : Text) → ((e : Line) → List·Memᴰ e book → e .name ≢ cookie) → AllTraced start (Opened cookie user signed lt ∷ older) book
   unfolding originOf openerOf calledOf
-  aged-open cookie user new e m =
+  aged-open cookie user signed lt new e m =
       let k = all e m in
       record { ticket = k .ticket; opener = rw (unlike cookie new e m) (k .opener); grant = k .grant; called = k .called }
 
@@ -121,9 +121,9 @@ module _ (start : ℕ) (older : List Item) (book : List Line) (all : AllTraced s
 plain-line : (start : ℕ) (h : List Item) (e : Line) → isTicket (e .kind) ≡ false → eqb (e .kind) aSession ≡ false → isPgt (e .kind) ≡ false → eqb (e .kind) aWaiting ≡ false → Traced start h e
 plain-line start h e a b c d = record { ticket = λ u. absurd (clash u a); opener = λ u. absurd (clash u b); grant = λ u. absurd (clash u c); called = λ u. absurd (clash u d) }
 
-open-line : (start : ℕ) (older : List Item) (cookie user : Text) (clock : ℕ) → Traced start (Opened cookie user ∷ older) (sessionLine cookie user clock)
+open-line : (start : ℕ) (older : List Item) (cookie user : Text) (signed : Bool) (lt : Text) (clock : ℕ) → Traced start (Opened cookie user signed lt ∷ older) (sessionLine cookie user clock)
 unfolding openerOf
-open-line start older cookie user clock =
+open-line start older cookie user signed lt clock =
     record {
       ticket = λ u. absurd (clash u refl);
       opener = λ u. rw (same-refl cookie);
@@ -205,7 +205,7 @@ step-traced start (Passed time) older o all = close-traced start _ _ _ _ (aged-q
 step-traced start (Showed lt) older o all = enter-traced start _ _ _ (plain-line start _ (loginLine lt (notebook start older .clock)) refl refl refl refl) (aged-quiet start older _ all (Showed lt) refl refl refl)
 step-traced start (Spent lt) older o all = close-traced start _ _ _ _ (aged-quiet start older _ all (Spent lt) refl refl refl)
 step-traced start (Ended cookie) older o all = close-traced start _ _ _ _ (aged-quiet start older _ all (Ended cookie) refl refl refl)
-step-traced start (Opened cookie user) older o all = enter-traced start _ _ _ (open-line start older cookie user (notebook start older .clock)) (aged-open start older _ all cookie user o)
+step-traced start (Opened cookie user signed lt) older o all = enter-traced start _ _ _ (open-line start older cookie user signed lt (notebook start older .clock)) (aged-open start older _ all cookie user signed lt (o .new))
 step-traced start (Issued cookie service ticket signed lt) older o all =
     rw (o .line) (enter-traced start _ _ _ (issue-line start older all cookie service ticket signed lt o) (aged-issue start older _ all cookie service ticket signed lt (o .new)))
 step-traced start (Proxied pgt target ticket) older o all =

@@ -1,5 +1,5 @@
 -- The validators and finish: what their answers say is what they did to the table. Assumes nothing.
-use mathlib.Core.Path.{_≡_, refl, sym, ap, ap₂, _∙_}
+use mathlib.Core.Path.{_≡_, refl, sym, ap, ap₂, _∙_, subst}
 use mathlib.Core.Bool.{Bool, true, false, not, _&&_, _||_}
 use mathlib.Core.List.{List, [], _∷_, _++_}
 use Prim.Native.Nat.{ℕ, zero, suc, _+_, _≤_, _<_}
@@ -12,7 +12,7 @@ use Rattle.protocol.specs.Table.{Table, recAt, putAt}
 use Rattle.protocol.specs.Register.{callbackOf}
 use Rattle.protocol.specs.Request.{malformed, validatorNames, fromQuery, present}
 use Rattle.protocol.specs.Answers.{Code, InvalidRequest, InvalidTicket, InvalidService, Reply, YesNo, Success, Failure, CallbackTo, replyText, replyAnswer, successText, callbackText}
-use Rattle.protocol.specs.Steps.{Brought, Step, step, put, remove, roomFor, newRec, add, ticketSlot, waitingSlot, chainOf, isPlain, takesProxies, failed, proxyParent, waitingWith, waitingStep, grants, acceptTicket, judgeTicket, presented, validate, granted, finished, finishAt, finish}
+use Rattle.protocol.specs.Steps.{Brought, Step, step, put, remove, roomFor, newRec, add, ticketSlot, waitingSlot, chainOf, isPlain, takesProxies, failed, proxyParent, waitingWith, waitingStep, grants, presented, validate, granted, finish}
 use Rattle.protocol.specs.declared.Path.{Path}
 use Rattle.protocol.specs.declared.Path.the-variants as path
 use Rattle.protocol.specs.declared.Validator.{Validator}
@@ -20,6 +20,7 @@ use Rattle.protocol.specs.declared.Validator.the-variants as validator
 use Rattle.protocol.proofs.Laws.{both}
 use Rattle.protocol.proofs.Added.{Room, room-one}
 use Rattle.account.specs.History.{Text, Asked, Told}
+use Rattle.account.specs.Clauses.{accepting, judging, settling}
 use Rattle.account.specs.Reading.{Item, Burnt, Welcomed, CalledBack, Settled, readValidator, badRequest, readGet, readFinish, pgtIn, iouIn}
 use Rattle.account.proofs.Base.{Case, is, isnt, case, clash, fork}
 use Rattle.account.proofs.Sim.{on}
@@ -28,6 +29,7 @@ use Rattle.account.proofs.Items.{reach-unburnt, reach-burn, right-line,
 use Rattle.account.proofs.Texts.{letters, pgt-read, iou-read}
 use Rattle.account.proofs.Counts.{Ok, ok-by, issuesIn, acceptsIn, sumIn}
 use Rattle.account.proofs.LoginGet.{new-letters}
+use Rattle.account.proofs.Same.{presented-is, finish-is}
 
 module _ (start : ℕ) (h : List Item) (t : Table) (R : Reached start h t) (v : Validator) (q : Text) (g : Brought) where
   abbrev Goes : Step → Type 0
@@ -118,8 +120,8 @@ module _ (start : ℕ) (h : List Item) (t : Table) (R : Reached start h t) (v : 
           ok-by start h (path.Validate v) _ (CalledBack v renew ticket service url (nameOf waiting) (iouText (waiting .iou)) (waiting .serial) ∷ []) _ callback-said
             (record { reached = reach-callback start h t R ticket e m v renew service url (g .random) right; issues = refl; accepts-eq = refl })
 
-      accept-ok : Goes (acceptTicket v r url g t′)
-      unfolding acceptTicket grants
+      accept-ok : Goes (accepting v r url g t′)
+      unfolding accepting grants
       accept-ok =
           fork Goes (isPlain v) plain-ok
             (λ z.
@@ -127,18 +129,17 @@ module _ (start : ℕ) (h : List Item) (t : Table) (R : Reached start h t) (v : 
                 (λ y. callback-ok (room-one t′ (both (not (isEmpty url) && same url (callbackOf (r .text) (g .register)) && leb (recAt (proxyParent r) (t′ .slots) .depth + 1) deepest) (roomFor 1 t′) y .1)))
                 (λ y. success-ok z))
 
-    judge-ok : Goes (judgeTicket v r q g t′)
-    unfolding judgeTicket
-    judge-ok =
-        fork Goes (eqb (r .kind) aProxy && not (takesProxies v)) (λ z. burnt-ok InvalidTicket)
-          (λ p.
-            fork Goes (renew && eqb (r .mark) 0) (λ z. burnt-ok InvalidTicket)
-              (λ m. fork Goes (same (r .text) service) (λ s. accept-ok (right-line start h t R ticket e v renew service p m s)) (λ z. burnt-ok InvalidService)))
-
-  presented-ok : Goes (presented v (ticketSlot (fromQuery "ticket" q) t) q g t)
-  unfolding presented
-  presented-ok =
-      fork Goes (eqb (ticketSlot ticket t) 0) (λ z. failed-ok t InvalidTicket (reach-unburnt start h t R ticket z)) (λ z. judge-ok z)
+  judged-ok : Goes (judging v (ticketSlot (fromQuery "ticket" q) t) q g t)
+  unfolding judging
+  judged-ok =
+      fork Goes (eqb (ticketSlot ticket t) 0) (λ z. failed-ok t InvalidTicket (reach-unburnt start h t R ticket z))
+        (λ e.
+          fork Goes (eqb (recAt (ticketSlot ticket t) (t .slots) .kind) aProxy && not (takesProxies v)) (λ z. burnt-ok e InvalidTicket)
+            (λ p.
+              fork Goes (renew && eqb (recAt (ticketSlot ticket t) (t .slots) .mark) 0) (λ z. burnt-ok e InvalidTicket)
+                (λ m.
+                  fork Goes (same (recAt (ticketSlot ticket t) (t .slots) .text) service) (λ s. accept-ok e (right-line start h t R ticket e v renew service p m s))
+                    (λ z. burnt-ok e InvalidService))))
 
   bad-ok : Ok start h (path.Validate v) [] (step t (failed v InvalidRequest))
   bad-ok = record { reached = R; issues = rw (failure-carries v v InvalidRequest); accepts-eq = rw (failure-counts v InvalidRequest) }
@@ -146,7 +147,7 @@ module _ (start : ℕ) (h : List Item) (t : Table) (R : Reached start h t) (v : 
   by-request : (b : Bool)
     → (let s = if b (step t (failed v InvalidRequest)) (presented v (ticketSlot ticket t) q g t) in Ok start h (path.Validate v) (if b [] (readValidator v q (replyAnswer (s .reply)) (replyText (s .reply)))) s)
   by-request true = bad-ok
-  by-request false = presented-ok
+  by-request false = subst Goes (sym (presented-is v (ticketSlot ticket t) q g t)) judged-ok
 
   pub validate-ok : (a : Asked) (cleared : Bool) → (let s = validate v q g t in Ok start h (path.Validate v) (readGet (path.Validate v) a q (replyAnswer (s .reply)) (replyText (s .reply)) cleared) s)
   unfolding validate readGet
@@ -168,17 +169,21 @@ module _ (start : ℕ) (h : List Item) (t : Table) (R : Reached start h t) (f : 
     abbrev waits : Rec
     waits = recAt slot (t .slots)
 
-    settled-yes : f .outcome ≡ true → F (finished waits (iouText (waits .iou)) t (put slot (granted waits (t .slots)) t))
-    unfolding finished replyAnswer replyText readFinish
+    settled-yes : f .outcome ≡ true
+      → F (step (put slot (granted waits (t .slots)) t) (Success (recAt (waits .session) (t .slots) .text) (iouText (waits .iou)) (chainOf (waits .parent) (t .slots))))
+    unfolding replyAnswer replyText readFinish
     settled-yes z =
         rw z (reach-granted start h t R (f .serial) e _ (settle-owes start h t R (f .serial) e true (successText (recAt (waits .session) (t .slots) .text) (iouText (waits .iou)) (chainOf (waits .parent) (t .slots))) refl))
 
-    settled-no : f .outcome ≡ false → F (finished waits [] t (remove slot t))
-    unfolding finished replyAnswer replyText readFinish
+    settled-no : f .outcome ≡ false → F (step (remove slot t) (Success (recAt (waits .session) (t .slots) .text) [] (chainOf (waits .parent) (t .slots))))
+    unfolding replyAnswer replyText readFinish
     settled-no z =
         rw z (reach-refused start h t R (f .serial) e _ (settle-owes start h t R (f .serial) e false (successText (recAt (waits .session) (t .slots) .text) [] (chainOf (waits .parent) (t .slots))) refl))
 
+  settled-ok : F (settling (waitingSlot (f .serial) t) (recAt (waitingSlot (f .serial) t) (t .slots)) (f .outcome) t)
+  unfolding settling
+  settled-ok = fork F (eqb (waitingSlot (f .serial) t) 0) (λ z. none-ok) (λ e. fork F (f .outcome) (settled-yes e) (settled-no e))
+
   pub finish-ok : F (finish (f .serial) (f .outcome) t)
-  unfolding finish finishAt
-  finish-ok =
-      fork F (eqb (waitingSlot (f .serial) t) 0) (λ z. none-ok) (λ e. fork F (f .outcome) (settled-yes e) (settled-no e))
+  unfolding finish
+  finish-ok = subst F (sym (finish-is (waitingSlot (f .serial) t) (recAt (waitingSlot (f .serial) t) (t .slots)) (f .outcome) t)) settled-ok

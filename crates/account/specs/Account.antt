@@ -20,7 +20,7 @@ use Rattle.protocol.specs.declared.Validator.{Validator}
 use Rattle.account.specs.History.{Text, Asked, Told, Call, ask, tell, Event}
 use Rattle.account.specs.Reading.{Item, Passed, Showed, Spent, Ended, Opened, Issued, Proxied, Burnt, Welcomed, CalledBack, Settled, trailOf}
 use Rattle.account.specs.Notebook.{Notebook, notebook, tally, isTicket, isBurnt, isEnded, isExpired}
-use Rattle.account.specs.Truth.{Origin, Granting, originOf, calledOf}
+use Rattle.account.specs.Truth.{Origin, Granting, spentLive, originOf, calledOf}
 
 -- Counted straight from the answers
 
@@ -93,7 +93,7 @@ wonHere start (Passed time) older x = false
 wonHere start (Showed lt) older x = false
 wonHere start (Spent lt) older x = false
 wonHere start (Ended cookie) older x = false
-wonHere start (Opened cookie user) older x = false
+wonHere start (Opened cookie user signed lt) older x = false
 wonHere start (Issued cookie service ticket signed lt) older x = false
 wonHere start (Proxied pgt target ticket) older x = false
 wonHere start (Burnt ticket) older x = false
@@ -121,13 +121,13 @@ welcome v o = if (isPlain v) (ascii "yes\n") (successText (o .user) [] (o .chain
 abbrev pub settlement : Bool → Granting → Text
 settlement outcome g = successText (g .user) (if outcome (g .iou) []) (g .chain)
 
--- what is owed for each thing said, by all that was said before
+-- what is owed for each thing said, by all that was said before; a session is opened by accepted credentials only
 abbrev pub Owed : ℕ → Item → List Item → Type 0
 Owed start (Passed time) older = Unit {0}
 Owed start (Showed lt) older = Unit {0}
 Owed start (Spent lt) older = Unit {0}
 Owed start (Ended cookie) older = Unit {0}
-Owed start (Opened cookie user) older = Unit {0}
+Owed start (Opened cookie user signed lt) older = (signed ≡ true) × (spentLive start older lt ≡ true)
 Owed start (Issued cookie service ticket signed lt) older = Unit {0}
 Owed start (Proxied pgt target ticket) older = Unit {0}
 Owed start (Burnt ticket) older = Unit {0}

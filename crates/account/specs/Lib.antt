@@ -4,3 +4,4 @@ pub mod Reading
 pub mod Notebook
 pub mod Truth
 pub mod Account
+pub mod Clauses

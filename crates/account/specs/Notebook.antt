@@ -208,7 +208,7 @@ note (Passed time) b = pass time b
 note (Showed lt) b = enter (loginLine lt (b .clock)) b
 note (Spent lt) b = closeAll spent (isLine aLogin lt) b
 note (Ended cookie) b = closeAll ended (ofSession cookie) b
-note (Opened cookie user) b = enter (sessionLine cookie user (b .clock)) b
+note (Opened cookie user signed lt) b = enter (sessionLine cookie user (b .clock)) b
 note (Issued cookie service ticket signed lt) b =
     enterUnder (look (isLine aSession cookie) (b .book)) (lineUnder aService ticket 0 service [] signed [] [] (b .clock)) b
 note (Proxied pgt target ticket) b =

@@ -27,8 +27,8 @@ pub data Item : Type 0 where
   Spent : (lt : Text) → Item
   -- the session of this cookie, if it is live, ends with all its tickets
   Ended : (cookie : Text) → Item
-  -- a session is opened for a user; its cookie is written
-  Opened : (cookie user : Text) → Item
+  -- a session is opened for a user, and its cookie is written; signed: by a POST with verdict yes, showing this login ticket
+  Opened : (cookie user : Text) → (signed : Bool) → (lt : Text) → Item
   -- a service ticket is issued to a service under the session of a cookie; signed: by a POST with verdict yes, showing this login ticket
   Issued : (cookie service ticket : Text) → (signed : Bool) → (lt : Text) → Item
   -- a proxy ticket is issued to a service by a grant
@@ -85,7 +85,8 @@ readLoginGet a q (answer.Callback n) said = []
 unfoldable pub readSession : Asked → Text → Bool → List Item
 readSession a [] false = []
 readSession a [] true = Ended (a .cookie) ∷ []
-readSession a (b ∷ cookie) cleared = Opened (b ∷ cookie) (fromBody "username" (a .body)) ∷ Ended (a .cookie) ∷ []
+readSession a (b ∷ cookie) cleared =
+    Opened (b ∷ cookie) (fromBody "username" (a .body)) (a .verdict) (fromBody "lt" (a .body)) ∷ Ended (a .cookie) ∷ []
 
 -- the cookie of the session after a sign-on: the new one, or the one shown
 abbrev pub cookieAfter : Text → Text → Text
