@@ -192,27 +192,17 @@ module _ (start : ℕ) (h : List Item) (t : Table) (R : Reached start h t) where
     reach-burn = record { tied = removed burnt refl .0; paid = (tt, R .paid) }
 
     -- accepted: the line's text, mark and kind are the record's
-    pub right-line : (v : Validator) (renew : Bool) (service : Text) → (eqb (recAt k (t .slots) .kind) aProxy && not (takesProxies v)) ≡ false
-      → (renew && eqb (recAt k (t .slots) .mark) 0) ≡ false → same (recAt k (t .slots) .text) service ≡ true → RightLine v renew service (a .e)
-    right-line v renew service p q s =
+    pub right-line : (v : Validator) (renew : Bool) (service : Text) → (eqb (recAt k (t .slots) .kind) aProxy ≡ true → takesProxies v ≡ true)
+      → (renew ≡ true → eqb (recAt k (t .slots) .mark) 0 ≡ false) → recAt k (t .slots) .text ≡ service → RightLine v renew service (a .e)
+    right-line v renew service taken marked meant =
         let g = R .tied .sim .good k (hits .live) in
         let r = rec-on L t (R .tied) k in
-        let p′ : (eqb (a .r .kind) aProxy && not (takesProxies v)) ≡ false = rw r at p in
-        let q′ : (renew && eqb (a .r .mark) 0) ≡ false = rw r at q in
-        let s′ : same (a .r .text) service ≡ true = rw r at s in
+        let m : renew ≡ true → eqb (a .r .mark) 0 ≡ false = rw r at marked in
         record {
-          text-is = g .text-eq ∙ same-eq (a .r .text) service s′;
-          primary = λ x. g .mark-eq ∙ marks renew (eqb (a .r .mark) 0) x q′;
-          allowed = λ x. takes (eqb (a .r .kind) aProxy) (takesProxies v) (rw (g .kind-eq) at x) p′;
+          text-is = g .text-eq ∙ (rw r at meant);
+          primary = λ x. g .mark-eq ∙ ap not (m x);
+          allowed = λ x. (rw r at taken) (rw (g .kind-eq) at x);
         }
-      where
-        marks : (a b : Bool) → a ≡ true → (a && b) ≡ false → not b ≡ true
-        marks true b x z = rw z
-        marks false b x z = absurd (clash x refl)
-        takes : (a b : Bool) → a ≡ true → (a && not b) ≡ false → b ≡ true
-        takes true true x z = refl
-        takes true false x z = absurd (clash refl z)
-        takes false b x z = absurd (clash x refl)
 
     -- the records of the table without it
     rec-after : (j : ℕ) → recAt j (putAt k freeRec (t .slots)) ≡ on (set (R .tied .A) k noSlot) j .r
@@ -241,13 +231,13 @@ module _ (start : ℕ) (h : List Item) (t : Table) (R : Reached start h t) where
             (proxyParent (a .r)) (ticket-up (a .r) is-ticket))
 
     pub reach-welcome : (v : Validator) (renew : Bool) (service said : Text) → RightLine v renew service (a .e)
-      → said ≡ if (isPlain v) (ascii "yes\n") (successText (recAt (recAt k (t .slots) .session) (putAt k freeRec (t .slots)) .text) [] (chainOf (proxyParent (recAt k (t .slots))) (putAt k freeRec (t .slots))))
+      → said ≡ if (isPlain v) (ascii "yes\n") (successText (a .e .user) [] (chainOf (proxyParent (recAt k (t .slots))) (putAt k freeRec (t .slots))))
       → Reached start (Welcomed v renew ticket service said ∷ h) (remove (ticketSlot ticket t) t)
     unfolding notebook note
     reach-welcome v renew service said right bytes =
         record {
           tied = removed accepted refl .0;
-          paid = (record { ticket-line = a .e; line = hits .line; right = right; bytes = rw (welcome-is, chain-told) at bytes }, R .paid);
+          paid = (record { ticket-line = a .e; line = hits .line; right = right; bytes = rw chain-told at bytes }, R .paid);
         }
 
     abbrev t′ : Table

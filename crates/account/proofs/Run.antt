@@ -32,8 +32,7 @@ use Rattle.account.proofs.Reached.{Reached}
 use Rattle.account.proofs.Items.{reach-pass}
 use Rattle.account.proofs.Texts.{append-assoc, said-is}
 use Rattle.account.proofs.Counts.{Ok, issuesIn, acceptsIn, sumIn, sum-append}
-use Rattle.account.proofs.Validators.{finish-ok}
-use Rattle.account.proofs.Others.{request-ok}
+use Rattle.account.proofs.Others.{finish-ok, request-ok}
 
 -- what is read of a delivered step
 read-delivered : (c : Call) (s : Step) (out cookie : Text) → read (eventOf c (delivered s out cookie)) ≡ readCall c (replyAnswer (s .reply)) (replyText (s .reply)) (s .cookie) (s .cleared)
