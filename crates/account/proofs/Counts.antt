@@ -17,39 +17,9 @@ use Rattle.protocol.proofs.Laws.{both}
 use Rattle.protocol.proofs.Added.{Room, slot-chosen}
 use Rattle.account.specs.History.{Text}
 use Rattle.account.specs.Reading.{Item, Passed, Showed, Spent, Ended, Opened, Issued, Proxied, Burnt, Welcomed, CalledBack, Settled}
-use Rattle.account.specs.Account.{one, carriesTicket, accepts}
+use Rattle.account.specs.Account.{one, carriesTicket, accepts, issuesIn, acceptsIn, sumIn}
 use Rattle.account.proofs.Base.{clash}
 use Rattle.account.proofs.Reached.{Reached}
-
-abbrev pub issuesIn : Item → ℕ
-issuesIn (Passed time) = 0
-issuesIn (Showed lt) = 0
-issuesIn (Spent lt) = 0
-issuesIn (Ended cookie) = 0
-issuesIn (Opened cookie user signed lt) = 0
-issuesIn (Issued cookie service ticket signed lt) = 1
-issuesIn (Proxied pgt target ticket) = 1
-issuesIn (Burnt ticket) = 0
-issuesIn (Welcomed v renew ticket service said) = 0
-issuesIn (CalledBack v renew ticket service url pgt iou serial) = 0
-issuesIn (Settled serial outcome said) = 0
-
-abbrev pub acceptsIn : Item → ℕ
-acceptsIn (Passed time) = 0
-acceptsIn (Showed lt) = 0
-acceptsIn (Spent lt) = 0
-acceptsIn (Ended cookie) = 0
-acceptsIn (Opened cookie user signed lt) = 0
-acceptsIn (Issued cookie service ticket signed lt) = 0
-acceptsIn (Proxied pgt target ticket) = 0
-acceptsIn (Burnt ticket) = 0
-acceptsIn (Welcomed v renew ticket service said) = 1
-acceptsIn (CalledBack v renew ticket service url pgt iou serial) = 1
-acceptsIn (Settled serial outcome said) = 0
-
-abbrev pub sumIn : (Item → ℕ) → List Item → ℕ
-sumIn f [] = 0
-sumIn f (i ∷ is) = f i + sumIn f is
 
 pub sum-append : (f : Item → ℕ) (a b : List Item) → sumIn f (a ++ b) ≡ sumIn f a + sumIn f b
 sum-append f [] b = omega arith

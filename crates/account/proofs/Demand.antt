@@ -28,7 +28,7 @@ use Rattle.account.proofs.Edits.{alive-time, alive-is, close-name}
 use Rattle.account.proofs.Look.{recOf, Tied, seen}
 use Rattle.account.proofs.Making.{New}
 use Rattle.account.proofs.Reached.{OwesIssue, RightLine, OwesWelcome, OwesCallback, OwesSettle, Owes, AllOwes, Reached}
-use Rattle.account.proofs.Counts.{issuesIn, acceptsIn, sumIn}
+use Rattle.account.specs.Account.{issuesIn, acceptsIn, sumIn}
 use Rattle.account.proofs.Run.{Life, life, started}
 use Rattle.account.proofs.Traced.{AllTraced, originIn, ticket-of, all-traced}
 use Rattle.account.proofs.Books.{claim, Owing, nil, just, pay, shrink, pay-win, pay-enter, re-wins, close-less, close-pays, wait-pays, raise-less, raise-pays, raise-name, tick1, tally-same, tally-plus, anyFate, close-all, close-acc, close-accepted, raise-kind, just-one, isSpent, close-unspent, close-other, fates, held-total}
@@ -297,6 +297,8 @@ account old time e calls =
     let f = fates (notebook time h .book) in
     let w = held-waiting (notebook time h) (decodeTable (tableAfter (formatOf old time .table) calls)) (l .reached .tied) in
     record {
+      issues-read = l .issues;
+      accepts-read = l .accepts-eq;
       balance = omega (arith, l .issues, l .accepts-eq, b .all, b .acc, b .unspent);
       once = λ x. omega (arith, b .owing .most x);
       honest = honest time h (l .reached .paid);

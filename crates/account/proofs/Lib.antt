@@ -21,3 +21,4 @@ pub mod Run
 pub mod Traced
 pub mod Books
 pub mod Demand
+pub mod Waiting

@@ -24,7 +24,8 @@ use Rattle.account.proofs.Base.{Case, is, isnt, case, clash, fork}
 use Rattle.account.proofs.Reached.{Reached}
 use Rattle.account.proofs.Items.{reach-show, reach-issue}
 use Rattle.account.proofs.Texts.{letters, name-letters, name-some, ticket-read, form-200, page-400, page-403, page-503, page-in}
-use Rattle.account.proofs.Counts.{Ok, ok-by, slot-named, issuesIn, acceptsIn, sumIn}
+use Rattle.account.proofs.Counts.{Ok, ok-by, slot-named}
+use Rattle.account.specs.Account.{issuesIn, acceptsIn, sumIn}
 
 -- what a request brings, from the call
 abbrev pub bring : Asked → Brought

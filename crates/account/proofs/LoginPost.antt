@@ -28,7 +28,8 @@ use Rattle.account.proofs.Base.{Case, is, isnt, case, clash, fork}
 use Rattle.account.proofs.Reached.{Reached}
 use Rattle.account.proofs.Items.{reach-show, reach-spend, spend-live, reach-end, reach-unended, reach-open, reach-issue}
 use Rattle.account.proofs.Texts.{append-assoc, letters, ticket-read, form-401, page-400, page-403, page-503, page-in}
-use Rattle.account.proofs.Counts.{Ok, ok-by, slot-named, issuesIn, acceptsIn, sumIn, sum-append, room-less, room-after}
+use Rattle.account.proofs.Counts.{Ok, ok-by, slot-named, sum-append, room-less, room-after}
+use Rattle.account.specs.Account.{issuesIn, acceptsIn, sumIn}
 use Rattle.account.proofs.LoginGet.{bring, new-letters, new-some}
 use Rattle.account.proofs.SignOn.{P, quiet-page, form-ok, admitting-ok}
 

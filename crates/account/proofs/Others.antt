@@ -26,7 +26,8 @@ use Rattle.account.proofs.Base.{Case, is, isnt, case, clash, fork}
 use Rattle.account.proofs.Reached.{Reached}
 use Rattle.account.proofs.Items.{reach-proxy, reach-end, reach-unended}
 use Rattle.account.proofs.Texts.{letters, proxy-read}
-use Rattle.account.proofs.Counts.{Ok, ok-by, issuesIn, acceptsIn, sumIn}
+use Rattle.account.proofs.Counts.{Ok, ok-by}
+use Rattle.account.specs.Account.{issuesIn, acceptsIn, sumIn}
 use Rattle.account.proofs.LoginGet.{bring, new-letters, login-get-ok}
 use Rattle.account.proofs.LoginPost.{login-post-ok}
 use Rattle.account.proofs.Validators.{bad-ok, judged-ok, settled-ok}

@@ -31,7 +31,8 @@ use Rattle.account.proofs.Look.{recOf, Tied}
 use Rattle.account.proofs.Reached.{Reached}
 use Rattle.account.proofs.Items.{reach-pass}
 use Rattle.account.proofs.Texts.{append-assoc, said-is}
-use Rattle.account.proofs.Counts.{Ok, issuesIn, acceptsIn, sumIn, sum-append}
+use Rattle.account.proofs.Counts.{Ok, sum-append}
+use Rattle.account.specs.Account.{issuesIn, acceptsIn, sumIn}
 use Rattle.account.proofs.Others.{finish-ok, request-ok}
 
 -- what is read of a delivered step

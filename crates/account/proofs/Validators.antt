@@ -28,7 +28,8 @@ use Rattle.account.proofs.Reached.{Reached, RightLine}
 use Rattle.account.proofs.Items.{reach-unburnt, right-line, reach-welcome, reach-callback, reach-refused}
 use Rattle.account.proofs.Rules.{taken, marked, for-service, reach-burnt, names-user, settled-owes, reach-raised}
 use Rattle.account.proofs.Texts.{letters, pgt-read, iou-read}
-use Rattle.account.proofs.Counts.{Ok, ok-by, issuesIn, acceptsIn, sumIn}
+use Rattle.account.proofs.Counts.{Ok, ok-by}
+use Rattle.account.specs.Account.{issuesIn, acceptsIn, sumIn}
 use Rattle.account.proofs.LoginGet.{new-letters}
 
 module _ (start : ℕ) (h : List Item) (t : Table) (R : Reached start h t) (v : Validator) (q : Text) (g : Brought) where

@@ -74,6 +74,38 @@ unfoldable pub accepted : List Event → ℕ
 accepted [] = 0
 accepted (e ∷ es) = acceptedBy (e .call) (e .outcome .answer) + accepted es
 
+-- The same, counted over all that was said: the trail leaves none of these answers out
+
+abbrev pub issuesIn : Item → ℕ
+issuesIn (Passed time) = 0
+issuesIn (Showed lt) = 0
+issuesIn (Spent lt) = 0
+issuesIn (Ended cookie) = 0
+issuesIn (Opened cookie user signed lt) = 0
+issuesIn (Issued cookie service ticket signed lt) = 1
+issuesIn (Proxied pgt target ticket) = 1
+issuesIn (Burnt ticket) = 0
+issuesIn (Welcomed v renew ticket service said) = 0
+issuesIn (CalledBack v renew ticket service url pgt iou serial) = 0
+issuesIn (Settled serial outcome said) = 0
+
+abbrev pub acceptsIn : Item → ℕ
+acceptsIn (Passed time) = 0
+acceptsIn (Showed lt) = 0
+acceptsIn (Spent lt) = 0
+acceptsIn (Ended cookie) = 0
+acceptsIn (Opened cookie user signed lt) = 0
+acceptsIn (Issued cookie service ticket signed lt) = 0
+acceptsIn (Proxied pgt target ticket) = 0
+acceptsIn (Burnt ticket) = 0
+acceptsIn (Welcomed v renew ticket service said) = 1
+acceptsIn (CalledBack v renew ticket service url pgt iou serial) = 1
+acceptsIn (Settled serial outcome said) = 0
+
+abbrev pub sumIn : (Item → ℕ) → List Item → ℕ
+sumIn f [] = 0
+sumIn f (i ∷ is) = f i + sumIn f is
+
 -- Read from the table
 
 -- the tickets that wait in it: live records of kind 3 and 4
@@ -141,6 +173,9 @@ Honest start (i ∷ older) = Owed start i older × Honest start older
 
 -- the account of a history h since the format at the time start, beside the table's bytes b after it
 pub record Account (start : ℕ) (h : List Event) (b : Text) : Type 0 where
+  -- no issue and no acceptance is left unread
+  pub issues-read : issued h ≡ sumIn issuesIn (trailOf h)
+  pub accepts-read : accepted h ≡ sumIn acceptsIn (trailOf h)
   -- every ticket issued is accounted for
   pub balance :
     issued h
