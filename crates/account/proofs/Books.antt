@@ -1,20 +1,19 @@
 -- The notebook's own books: tickets issued and accepted, and each ticket's one right to a success answer. No table here. Assumes nothing.
-use mathlib.Core.Path.{_≡_, refl, sym, ap, ap₂, _∙_, subst}
+use mathlib.Core.Path.{_≡_, refl, ap₂}
 use mathlib.Core.Logic.{_⊎_, inl, inr, _≢_}
-use mathlib.Core.Bool.{Bool, true, false, not, _&&_, _||_}
-use mathlib.Core.List.{List, [], _∷_, _++_, map, List·Memᴰ, List·Memᴰ·cases-cons, List·Memᴰ·not-nil, List·Memᴰ·head, List·Memᴰ·tail, Memᴰ·map, Memᴰ·of-map}
-use Prim.Native.Nat.{ℕ, zero, suc, _+_, _≤_, _<_}
+use mathlib.Core.Bool.{Bool, true, false, _&&_}
+use mathlib.Core.List.{List, [], _∷_, map, List·Memᴰ, List·Memᴰ·cases-cons, List·Memᴰ·not-nil, List·Memᴰ·head, List·Memᴰ·tail, Memᴰ·map}
+use Prim.Native.Nat.{ℕ, _+_, _≤_}
 use native.Mathlib.Omega.{arith}
 use borrow.Author.Tests.{eqb-true}
 use lib.Dec.{eqb}
 use Rattle.protocol.specs.Bytes.{if, same}
 use Rattle.protocol.specs.Tickets.{aWaiting}
-use Rattle.protocol.proofs.Laws.{both, same-eq, same-refl}
+use Rattle.protocol.proofs.Laws.{both, same-eq}
 use Rattle.account.specs.History.{Text}
-use Rattle.account.specs.Notebook.{Fate, held, accepted, burnt, ended, expired, spent, Line, isHeld, close, closeLine, raise, raiseLine, isTicket, isTicketLine, isWaitingLine, tally, isAccepted, isBurnt, isEnded, isExpired}
-use Rattle.account.proofs.Base.{Case, is, isnt, case, clash, untrue, when, sum}
+use Rattle.account.specs.Notebook.{Fate, held, accepted, burnt, ended, expired, spent, Line, isHeld, closeLine, raise, raiseLine, isTicket, isTicketLine, isWaitingLine, tally, isAccepted, isBurnt, isEnded, isExpired}
+use Rattle.account.proofs.Base.{Case, is, isnt, case, clash, untrue, when}
 use Rattle.account.proofs.Sim.{heft, total}
-use Rattle.account.proofs.Edits.{close-name}
 
 -- a ticket's right to one success: held, or handed on to its waiting grant
 abbrev pub claim : Text → Line → ℕ
@@ -51,8 +50,8 @@ pay book wins g c less names x m hx o =
     record {
       most = λ k. omega (arith, total-pays (claim k) g (c k) (less k) x (hx k) book m, o .most k);
       far = λ k h.
-        let z = o .far k (λ e me. rw (names e) at (h (g e) (Memᴰ·map g me))) in
-        omega (arith, total-pays (claim k) g (c k) (less k) x (hx k) book m);
+          let z = o .far k (λ e me. rw (names e) at (h (g e) (Memᴰ·map g me))) in
+          omega (arith, total-pays (claim k) g (c k) (less k) x (hx k) book m);
     }
 
 pub shrink : (book : List Line) (wins : Text → ℕ) (g : Line → Line) → ((k : Text) (e : Line) → heft (claim k) (g e) ≤ heft (claim k) e) → ((e : Line) → g e .name ≡ e .name)
@@ -61,8 +60,8 @@ shrink book wins g less names o =
     record {
       most = λ k. omega (arith, total-less (claim k) g (less k) book, o .most k);
       far = λ k h.
-        let z = o .far k (λ e me. rw (names e) at (h (g e) (Memᴰ·map g me))) in
-        omega (arith, total-less (claim k) g (less k) book);
+          let z = o .far k (λ e me. rw (names e) at (h (g e) (Memᴰ·map g me))) in
+          omega (arith, total-less (claim k) g (less k) book);
     }
 
 -- what is owed is paid by a success answer
@@ -83,6 +82,7 @@ pay-enter book wins c x new hx o = record { most = λ k. go k (case (same (x .na
     go k (isnt ne) =
         let w : just (x .name) k ≡ 0 = rw ne in
         omega (arith, hx k, o .most k)
+
     far : (k : Text) → ((e : Line) → List·Memᴰ e (x ∷ book) → e .name ≢ k) → total (claim k) (x ∷ book) + wins k + 0 ≡ 0
     far k h =
         let z = o .far k (λ e m. h e (List·Memᴰ·tail m)) in
@@ -176,9 +176,11 @@ close-accepted q e = go (case (isHeld (e .fate))) (case (q e))
     fix : (b : Bool) → if (b && true) 1 0 ≡ if (b && false) 1 0 + when (b && true) 1
     fix true = refl
     fix false = refl
+
     same-still : (b c : Bool) → if (b && c) 1 0 ≡ if (b && c) 1 0 + when (b && false) 1
     same-still true c = omega arith
     same-still false c = refl
+
     go : Case (isHeld (e .fate)) → Case (q e) → tick1 isAccepted (closeLine accepted q e) ≡ tick1 isAccepted e + heft (λ e. when (isTicket (e .kind) && q e) 1) e
     go (is h) (is z) = rw (h, z, held-fate (e .fate) h) (fix (isTicket (e .kind)))
     go (is h) (isnt z) = rw (h, z) (same-still (isTicket (e .kind)) (isAccepted (e .fate)))

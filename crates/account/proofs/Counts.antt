@@ -1,8 +1,7 @@
 -- Tickets issued and accepted, counted over things said, and what a step must keep. Assumes nothing.
-use mathlib.Core.Path.{_≡_, refl, sym, ap, _∙_}
-use mathlib.Core.Logic.{_≢_}
-use mathlib.Core.Bool.{Bool, true, false, not, _&&_, _||_}
-use mathlib.Core.List.{List, [], _∷_, _++_, map}
+use mathlib.Core.Path.{_≡_, refl}
+use mathlib.Core.Bool.{true, false, _&&_}
+use mathlib.Core.List.{List, [], _∷_, _++_}
 use Prim.Native.Nat.{ℕ, zero, suc, _+_, _%_, _≤_, _<_}
 use native.Mathlib.Omega.{arith}
 use borrow.Author.Tests.{eq-eqb, ne-eqb, leb-true, le-leb}
@@ -10,13 +9,13 @@ use lib.Dec.{eqb, leb}
 use lib.ListN.{length, getD, set}
 use Rattle.protocol.specs.Records.{Rec, freeRec}
 use Rattle.protocol.specs.Table.{Table, recAt, putAt, countKind, slotWhere}
-use Rattle.protocol.specs.Answers.{Reply, replyAnswer}
+use Rattle.protocol.specs.Answers.{replyAnswer}
 use Rattle.protocol.specs.Steps.{Step, isNamed, slotNamed, slotFor, roomFor, add}
 use Rattle.protocol.specs.declared.Path.{Path}
 use Rattle.protocol.proofs.Laws.{both}
 use Rattle.protocol.proofs.Added.{Room, slot-chosen}
 use Rattle.account.specs.History.{Text}
-use Rattle.account.specs.Reading.{Item, Passed, Showed, Spent, Ended, Opened, Issued, Proxied, Burnt, Welcomed, CalledBack, Settled}
+use Rattle.account.specs.Reading.{Item}
 use Rattle.account.specs.Account.{one, carriesTicket, accepts, issuesIn, acceptsIn, sumIn}
 use Rattle.account.proofs.Base.{clash}
 use Rattle.account.proofs.Reached.{Reached}

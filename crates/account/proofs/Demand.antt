@@ -1,37 +1,33 @@
 -- Demand 3: the account of every run. Assumes nothing.
-use mathlib.Core.Path.{_≡_, refl, sym, ap, ap₂, _∙_, subst}
-use mathlib.Core.Logic.{_⊎_, inl, inr, _≢_}
-use mathlib.Core.Bool.{Bool, true, false, not, _&&_, _||_}
-use mathlib.Core.List.{List, [], _∷_, _++_, map, List·Memᴰ, List·Memᴰ·not-nil}
-use Prim.Native.Nat.{ℕ, zero, suc, _+_, _≤_, _<_}
+use mathlib.Core.Path.{_≡_, refl, sym, ap, ap₂, _∙_}
+use mathlib.Core.Logic.{_≢_}
+use mathlib.Core.Bool.{Bool, true, false, not, _&&_}
+use mathlib.Core.List.{List, [], _∷_, map, List·Memᴰ, Memᴰ·of-map}
+use Prim.Native.Nat.{ℕ, zero, suc, _+_, _≤_}
 use native.Mathlib.Omega.{arith}
-use borrow.Author.Tests.{eqb-true, lt-ltb}
+use borrow.Author.Tests.{eqb-true, ne-eqb}
 use lib.Dec.{eqb, ltb}
-use lib.ListN.{length, getD}
-use Rattle.protocol.specs.Bytes.{if, ascii, same}
+use Rattle.protocol.specs.Bytes.{same}
 use Rattle.protocol.specs.Tickets.{aLogin, aWaiting}
-use Rattle.protocol.specs.Records.{Rec, freeRec, live}
+use Rattle.protocol.specs.Records.{freeRec, live}
 use Rattle.protocol.specs.Table.{Table, decodeTable}
-use Rattle.protocol.specs.Answers.{successText}
-use Rattle.protocol.specs.Steps.{isPlain, takesProxies}
 use Rattle.protocol.specs.Calls.{formatOf}
 use Rattle.protocol.specs.declared.Validator.{Validator}
-use Rattle.protocol.proofs.Laws.{both, same-eq, same-refl}
-use Rattle.account.specs.History.{Text, Call, Event, tableAfter, historyOf}
+use Rattle.protocol.proofs.Laws.{both, same-eq}
+use Rattle.account.specs.History.{Text, Call, tableAfter, historyOf}
 use Rattle.account.specs.Reading.{Item, Passed, Showed, Spent, Ended, Opened, Issued, Proxied, Burnt, Welcomed, CalledBack, Settled, trailOf}
-use Rattle.account.specs.Notebook.{Fate, held, accepted, burnt, ended, expired, spent, Line, Notebook, isHeld, closeLine, closeAll, raiseLine, raiseAll, enter, pass, Look, found, nothing, look, isLine, isTicket, isTicketLine, isWaitingLine, ofSession, loginLine, sessionLine, lineUnder, enterUnder, note, notebook, tally, isAccepted, isBurnt, isEnded, isExpired}
+use Rattle.account.specs.Notebook.{Fate, held, accepted, burnt, ended, expired, spent, Line, Notebook, isHeld, closeLine, closeAll, raiseLine, raiseAll, enter, pass, found, look, isLine, isTicket, isTicketLine, isWaitingLine, loginLine, sessionLine, lineUnder, note, notebook, tally, isAccepted}
 use Rattle.account.specs.Truth.{Origin, originOf, calledOf}
-use Rattle.account.specs.Account.{one, wonHere, successes, waitingAmong, waitingIn, Rightful, Owed, Honest, Account}
-use Rattle.account.proofs.Base.{Case, is, isnt, case, clash, and-yes, when, sum}
-use Rattle.account.proofs.Sim.{Slot, noSlot, on, alive, lives, weight, weigh, heft, total, Sim}
-use Rattle.account.proofs.Edits.{alive-time, alive-is, close-name}
+use Rattle.account.specs.Account.{one, successes, waitingAmong, waitingIn, Rightful, Owed, Honest, Account}
+use Rattle.account.proofs.Base.{Case, is, isnt, case, clash, and-yes, when}
+use Rattle.account.proofs.Sim.{Slot, on, alive, lives, weight, weigh}
+use Rattle.account.proofs.Edits.{close-name}
 use Rattle.account.proofs.Look.{recOf, Tied, seen}
-use Rattle.account.proofs.Making.{New}
-use Rattle.account.proofs.Reached.{OwesIssue, RightLine, OwesWelcome, OwesCallback, OwesSettle, Owes, AllOwes, Reached}
+use Rattle.account.proofs.Reached.{RightLine, Owes, AllOwes}
 use Rattle.account.specs.Account.{issuesIn, acceptsIn, sumIn}
-use Rattle.account.proofs.Run.{Life, life, started}
+use Rattle.account.proofs.Run.{life, started}
 use Rattle.account.proofs.Traced.{AllTraced, originIn, ticket-of, all-traced}
-use Rattle.account.proofs.Books.{claim, Owing, nil, just, pay, shrink, pay-win, pay-enter, re-wins, close-less, close-pays, wait-pays, raise-less, raise-pays, raise-name, tick1, tally-same, tally-plus, anyFate, close-all, close-acc, close-accepted, raise-kind, just-one, isSpent, close-unspent, close-other, fates, held-total}
+use Rattle.account.proofs.Books.{Owing, nil, just, pay, shrink, pay-win, pay-enter, re-wins, close-less, close-pays, wait-pays, raise-less, raise-pays, raise-name, tally-same, tally-plus, anyFate, close-all, close-acc, close-accepted, raise-kind, just-one, isSpent, close-unspent, close-other, fates, held-total}
 
 -- Every acceptance and every success answer is right
 
@@ -82,7 +78,6 @@ record Books (start : ℕ) (h : List Item) (book : List Line) : Type 0 where
 -- lines that are closed and lose nothing that counts
 module _ (start : ℕ) (i : Item) (older : List Item) (book : List Line) (b : Books start older book)
     (quiet : (k : Text) → successes start (i ∷ older) k ≡ successes start older k) (no-issue : issuesIn i ≡ 0) (no-accept : acceptsIn i ≡ 0) where
-
   close-books : (F : Fate) (q : Line → Bool) → isHeld F ≡ false → isAccepted F ≡ false → isSpent F ≡ false → Books start (i ∷ older) (map (closeLine F q) book)
   close-books F q hF nF sF =
       record {
@@ -140,25 +135,29 @@ module _ (start : ℕ) (older : List Item) (book : List Line) (b : Books start o
   accept-owing : Owing (map (closeLine accepted (isTicketLine ticket)) book) (λ (k : Text). successes start older k) (just ticket)
   accept-owing =
       pay book _ (closeLine accepted (isTicketLine ticket)) (just ticket) (close-less accepted (isTicketLine ticket) refl) (close-name accepted (isTicketLine ticket)) x m
-        (λ k.
-          let z = close-pays accepted (isTicketLine ticket) refl x h t is-ticket k in
-          let n : just (x .name) k ≡ just ticket k = ap (λ (y : Text). just y k) its-name in
-          omega arith)
-        (b .owing)
+      (λ k.
+      let z = close-pays accepted (isTicketLine ticket) refl x h t is-ticket k in
+      let n : just (x .name) k ≡ just ticket k = ap (λ (y : Text). just y k) its-name in
+      omega arith)
+      (b .owing)
 
   accept-all : sumIn issuesIn older ≡ tally anyFate (map (closeLine accepted (isTicketLine ticket)) book)
   accept-all = b .all ∙ sym (tally-same anyFate (closeLine accepted (isTicketLine ticket)) (close-all accepted (isTicketLine ticket)) book)
 
   accept-acc : suc (sumIn acceptsIn older) ≡ tally isAccepted (map (closeLine accepted (isTicketLine ticket)) book)
   accept-acc =
-      omega (arith, b .acc, tally-plus isAccepted (closeLine accepted (isTicketLine ticket)) (λ e. when (isTicket (e .kind) && isTicketLine ticket e) 1) (close-accepted (isTicketLine ticket)) book,
-        just-one book _ (b .owing) ticket x m h t)
+      omega (
+        arith,
+        b .acc,
+        tally-plus isAccepted (closeLine accepted (isTicketLine ticket)) (λ e. when (isTicket (e .kind) && isTicketLine ticket e) 1) (close-accepted (isTicketLine ticket)) book,
+        just-one book _ (b .owing) ticket x m h t,
+      )
 
   accept-unspent : tally isSpent (map (closeLine accepted (isTicketLine ticket)) book) ≡ 0
   accept-unspent = tally-same isSpent (closeLine accepted (isTicketLine ticket)) (close-unspent accepted (isTicketLine ticket) refl) book ∙ b .unspent
 
 new-closed : (F : Fate) (q : Line → Bool) (book : List Line) (x : Text) → ((e : Line) → List·Memᴰ e book → e .name ≢ x) → (e : Line) → List·Memᴰ e (map (closeLine F q) book) → e .name ≢ x
-new-closed F q book x new e m = go (mathlib.Core.List.Memᴰ·of-map (closeLine F q) book m)
+new-closed F q book x new e m = go (Memᴰ·of-map (closeLine F q) book m)
   where
     go : (a : Line) × List·Memᴰ a book × (closeLine F q a ≡ e) → e .name ≢ x
     go (a, ma, ea) = rw (← ea, close-name F q a) (new a ma)
@@ -180,11 +179,11 @@ step-books start (Ended cookie) older o all b = close-books start (Ended cookie)
 step-books start (Opened cookie user signed lt) older o all b = enter-books start (Opened cookie user signed lt) older _ b (λ k. omega arith) refl refl (sessionLine cookie user (notebook start older .clock)) (o .new) refl refl
 step-books start (Issued cookie service ticket signed lt) older o all b =
     rw (o .line)
-      (ticket-books start (Issued cookie service ticket signed lt) older _ b (λ k. omega arith) refl refl (lineUnder 3 ticket 0 service [] signed [] [] (notebook start older .clock) (o .source)) (o .new) refl refl refl)
+    (ticket-books start (Issued cookie service ticket signed lt) older _ b (λ k. omega arith) refl refl (lineUnder 3 ticket 0 service [] signed [] [] (notebook start older .clock) (o .source)) (o .new) refl refl refl)
 step-books start (Proxied pgt target ticket) older o all b =
     rw (o .line)
-      (ticket-books start (Proxied pgt target ticket) older _ b (λ k. omega arith) refl refl (lineUnder 4 ticket 0 target (o .source .text ∷ o .source .chain) false [] [] (notebook start older .clock) (o .source))
-        (o .new) refl refl refl)
+    (ticket-books start (Proxied pgt target ticket) older _ b (λ k. omega arith) refl refl (lineUnder 4 ticket 0 target (o .source .text ∷ o .source .chain) false [] [] (notebook start older .clock) (o .source))
+    (o .new) refl refl refl)
 step-books start (Burnt ticket) older o all b = close-books start (Burnt ticket) older _ b (λ k. omega arith) refl refl burnt _ refl refl refl
 step-books start (Welcomed v renew ticket service said) older o all b =
     let s = seen (isTicketLine ticket) (notebook start older .book) (o .ticket-line) (o .line) in
@@ -203,25 +202,25 @@ step-books start (CalledBack v renew ticket service url pgt iou serial) older o 
     let n : o .ticket-line .name ≡ ticket = its-name start older _ b ticket (o .ticket-line) (s .0) (s .1) (s .2) in
     let x : Line = lineUnder 5 pgt serial url (o .ticket-line .chain) false (o .ticket-line .name) iou (notebook start older .clock) (o .ticket-line) in
     rw (o .line)
-      (record {
-        owing =
+    (record {
+      owing =
           re-wins _ _ _ (λ k. omega arith)
-            (pay-enter _ _ (just ticket) x (new-closed accepted (isTicketLine ticket) (notebook start older .book) pgt (o .new)) (λ k. rw n (omega arith))
-              (accept-owing start older _ b ticket (o .ticket-line) (s .0) (s .1) (s .2)));
-        all = omega (arith, accept-all start older _ b ticket (o .ticket-line) (s .0) (s .1) (s .2));
-        acc = omega (arith, accept-acc start older _ b ticket (o .ticket-line) (s .0) (s .1) (s .2));
-        unspent = omega (arith, accept-unspent start older _ b ticket (o .ticket-line) (s .0) (s .1) (s .2));
-      })
+          (pay-enter _ _ (just ticket) x (new-closed accepted (isTicketLine ticket) (notebook start older .book) pgt (o .new)) (λ k. rw n (omega arith))
+          (accept-owing start older _ b ticket (o .ticket-line) (s .0) (s .1) (s .2)));
+      all = omega (arith, accept-all start older _ b ticket (o .ticket-line) (s .0) (s .1) (s .2));
+      acc = omega (arith, accept-acc start older _ b ticket (o .ticket-line) (s .0) (s .1) (s .2));
+      unspent = omega (arith, accept-unspent start older _ b ticket (o .ticket-line) (s .0) (s .1) (s .2));
+    })
 step-books start (Settled serial true said) older o all b =
     let s = seen (isWaitingLine serial) (notebook start older .book) (o .waiting-line) (o .line) in
     let w = both (eqb (o .waiting-line .kind) aWaiting) (eqb (o .waiting-line .ref) serial) (s .2) in
     let c = waiting-of start older all serial (o .waiting-line) (o .line) in
     record {
       owing =
-        re-wins _ _ _ (λ k. rw c (ones (same (o .waiting-line .origin) k) (successes start older k)))
+          re-wins _ _ _ (λ k. rw c (ones (same (o .waiting-line .origin) k) (successes start older k)))
           (pay-win _ _ (just (o .waiting-line .origin))
-            (pay (notebook start older .book) _ (raiseLine (isWaitingLine serial)) (just (o .waiting-line .origin)) (raise-less (isWaitingLine serial)) (raise-name (isWaitingLine serial)) (o .waiting-line) (s .0)
-              (raise-pays (isWaitingLine serial) (o .waiting-line) (s .1) (s .2) (w .0)) (b .owing)));
+          (pay (notebook start older .book) _ (raiseLine (isWaitingLine serial)) (just (o .waiting-line .origin)) (raise-less (isWaitingLine serial)) (raise-name (isWaitingLine serial)) (o .waiting-line) (s .0)
+          (raise-pays (isWaitingLine serial) (o .waiting-line) (s .1) (s .2) (w .0)) (b .owing)));
       all = omega (arith, b .all, tally-same anyFate (raiseLine (isWaitingLine serial)) (raise-kind serial anyFate) (notebook start older .book));
       acc = omega (arith, b .acc, tally-same isAccepted (raiseLine (isWaitingLine serial)) (raise-kind serial isAccepted) (notebook start older .book));
       unspent = tally-same isSpent (raiseLine (isWaitingLine serial)) (raise-kind serial isSpent) (notebook start older .book) ∙ b .unspent;
@@ -236,10 +235,10 @@ step-books start (Settled serial false said) older o all b =
     let c = waiting-of start older all serial (o .waiting-line) (o .line) in
     record {
       owing =
-        re-wins _ _ _ (λ k. rw c (ones (same (o .waiting-line .origin) k) (successes start older k)))
+          re-wins _ _ _ (λ k. rw c (ones (same (o .waiting-line .origin) k) (successes start older k)))
           (pay-win _ _ (just (o .waiting-line .origin))
-            (pay (notebook start older .book) _ (closeLine spent (isWaitingLine serial)) (just (o .waiting-line .origin)) (close-less spent (isWaitingLine serial) refl) (close-name spent (isWaitingLine serial)) (o .waiting-line) (s .0)
-              (wait-pays spent (isWaitingLine serial) refl (o .waiting-line) (s .1) (s .2) (w .0)) (b .owing)));
+          (pay (notebook start older .book) _ (closeLine spent (isWaitingLine serial)) (just (o .waiting-line .origin)) (close-less spent (isWaitingLine serial) refl) (close-name spent (isWaitingLine serial)) (o .waiting-line) (s .0)
+          (wait-pays spent (isWaitingLine serial) refl (o .waiting-line) (s .1) (s .2) (w .0)) (b .owing)));
       all = omega (arith, b .all, tally-same anyFate (closeLine spent (isWaitingLine serial)) (close-all spent (isWaitingLine serial)) (notebook start older .book));
       acc = omega (arith, b .acc, tally-same isAccepted (closeLine spent (isWaitingLine serial)) (close-other spent (isWaitingLine serial) (waiting-other serial) isAccepted) (notebook start older .book));
       unspent = tally-same isSpent (closeLine spent (isWaitingLine serial)) (close-other spent (isWaitingLine serial) (waiting-other serial) isSpent) (notebook start older .book) ∙ b .unspent;
@@ -264,6 +263,7 @@ waiting-weigh c (a ∷ A) h = ap₂ _+_ (go (case (alive c (a .r)))) (waiting-we
     ones : (z : Bool) → when z 1 ≡ one z
     ones true = refl
     ones false = refl
+
     go : Case (alive c (a .r)) → weight c (λ e. when (isTicket (e .kind)) 1) a ≡ one (isTicket (a .r .kind) && live c (a .r))
     go (is z) = rw (z, h 0 z, both (not (eqb (a .r .kind) 0)) (ltb c (a .r .expiry)) z .1, and-yes (isTicket (a .r .kind))) (ones (isTicket (a .r .kind)))
     go (isnt z) = rw z (dead (case (isTicket (a .r .kind))))
@@ -273,7 +273,8 @@ waiting-weigh c (a ∷ A) h = ap₂ _+_ (go (case (alive c (a .r)))) (waiting-we
           where
             some : (k : ℕ) → isTicket k ≡ true → eqb k 0 ≡ false
             some zero t = absurd (clash t refl)
-            some (suc k) t = borrow.Author.Tests.ne-eqb (suc k) 0 (λ e. omega arith)
+            some (suc k) t = ne-eqb (suc k) 0 (λ e. omega arith)
+
             late : Case (ltb c (a .r .expiry)) → 0 ≡ one (ltb c (a .r .expiry))
             late (is l) = absurd (clash {b = alive c (a .r)} (rw (some (a .r .kind) t, l)) z)
             late (isnt l) = rw l

@@ -1,36 +1,30 @@
 -- login by POST: what its answer says is what it did to the table. Assumes nothing.
-use mathlib.Core.Path.{_≡_, refl, sym, ap, _∙_, subst}
-use mathlib.Core.Bool.{Bool, true, false, not, _&&_, _||_}
+use mathlib.Core.Path.{_≡_, refl, sym, subst}
+use mathlib.Core.Bool.{Bool, true, false, not, _||_}
 use mathlib.Core.List.{List, [], _∷_, _++_}
-use Prim.Native.Nat.{ℕ, zero, suc, _+_, _≤_, _<_}
+use Prim.Native.Nat.{ℕ, _+_}
 use native.Mathlib.Omega.{arith}
-use borrow.Author.Tests.{ltb-true, lt-ltb, ne-eqb, eqb-true, not-false}
-use lib.Dec.{eqb, ltb}
-use Rattle.protocol.specs.Bytes.{if, isEmpty, same, decimal, ascii}
-use Rattle.protocol.specs.Tickets.{aLogin, aSession, aService, lifetime}
-use Rattle.protocol.specs.Records.{Rec, nameOf, live}
-use Rattle.protocol.specs.Table.{Table, recAt, putAt, countKind, loginCap}
+use borrow.Author.Tests.{not-false}
+use lib.Dec.{eqb}
+use Rattle.protocol.specs.Bytes.{if, isEmpty}
+use Rattle.protocol.specs.Table.{Table}
 use Rattle.protocol.specs.Register.{decodeRegister}
 use Rattle.protocol.specs.Request.{malformed, bodyNames, fromBody}
-use Rattle.protocol.specs.Answers.{Reply, ErrorPage, SignedIn, FormPage, RedirectTo, replyText, replyAnswer, pageHead, formText, redirectText}
-use Rattle.protocol.specs.Steps.{Brought, Step, step, remove, endSession, isNamed, sessionOf, slotNamed, slotFor, roomFor, newRec, expiryFor, add, formWith, formStep, ticketWith, ticketStep, unknownService, admitted, newSession, needs, issueAll, accepted, credentials, loginTicket, loginPost}
-use Rattle.protocol.specs.declared.Path.{Path}
+use Rattle.protocol.specs.Answers.{ErrorPage, replyText, replyAnswer}
+use Rattle.protocol.specs.Steps.{Step, step, remove, sessionOf, unknownService, accepted, credentials, loginTicket, loginPost}
 use Rattle.protocol.specs.declared.Path.the-variants as path
-use Rattle.protocol.proofs.Laws.{both, same-refl}
-use Rattle.protocol.proofs.Kept.{put-same}
-use Rattle.protocol.proofs.Added.{Room, room-one}
+use Rattle.protocol.proofs.Laws.{same-refl}
 use Rattle.account.specs.History.{Text, Asked}
 use Rattle.account.specs.Clauses.{changedAt, admitting}
-use Rattle.account.specs.Reading.{Item, Showed, Spent, Ended, Opened, Issued, isForm, readSession, cookieAfter, readLoginPost, readPost}
-use Rattle.account.specs.Notebook.{notebook}
+use Rattle.account.specs.Reading.{Item, Spent, readLoginPost, readPost}
 use Rattle.account.specs.Truth.{spentLive}
-use Rattle.account.proofs.Base.{Case, is, isnt, case, clash, fork}
+use Rattle.account.proofs.Base.{clash, fork}
 use Rattle.account.proofs.Reached.{Reached}
-use Rattle.account.proofs.Items.{reach-show, reach-spend, spend-live, reach-end, reach-unended, reach-open, reach-issue}
-use Rattle.account.proofs.Texts.{append-assoc, letters, ticket-read, form-401, page-400, page-403, page-503, page-in}
-use Rattle.account.proofs.Counts.{Ok, ok-by, slot-named, sum-append, room-less, room-after}
-use Rattle.account.specs.Account.{issuesIn, acceptsIn, sumIn}
-use Rattle.account.proofs.LoginGet.{bring, new-letters, new-some}
+use Rattle.account.proofs.Items.{reach-spend, spend-live}
+use Rattle.account.proofs.Texts.{append-assoc, page-403}
+use Rattle.account.proofs.Counts.{Ok, sum-append}
+use Rattle.account.specs.Account.{issuesIn, acceptsIn}
+use Rattle.account.proofs.LoginGet.{bring}
 use Rattle.account.proofs.SignOn.{P, quiet-page, form-ok, admitting-ok}
 
 -- the clause of accepted credentials is protocol's
@@ -64,12 +58,12 @@ module _ (start : ℕ) (h : List Item) (t : Table) (R : Reached start h t) (a : 
   unfolding credentials
   credentials-ok =
       fork (P start h′ a) (unknownService (fromBody "service" (a .body)) (decodeRegister (a .register))) (λ z. quiet-page start h′ a t′ spent-first 403 page-403)
-        (λ z.
-          fork (P start h′ a) (eqb (loginTicket (a .body) t) 0 || isEmpty (fromBody "username" (a .body)) || isEmpty (fromBody "password" (a .body)) || not (a .verdict))
-            (λ z. form-ok start h′ a t′ spent-first (a .random))
-            (λ z.
-              let n = or-none (eqb (loginTicket (a .body) t) 0) (isEmpty (fromBody "username" (a .body))) (isEmpty (fromBody "password" (a .body))) (not (a .verdict)) z in
-              subst (P start h′ a) (sym (accepted-is (sessionOf (a .cookie) t′) (fromBody "username" (a .body)) (fromBody "service" (a .body)) (a .random) t′)) (admitting-ok start h′ a t′ spent-first (not-false (a .verdict) (n .1)) (own-live (n .0)))))
+      (λ z.
+      fork (P start h′ a) (eqb (loginTicket (a .body) t) 0 || isEmpty (fromBody "username" (a .body)) || isEmpty (fromBody "password" (a .body)) || not (a .verdict))
+      (λ z. form-ok start h′ a t′ spent-first (a .random))
+      (λ z.
+      let n = or-none (eqb (loginTicket (a .body) t) 0) (isEmpty (fromBody "username" (a .body))) (isEmpty (fromBody "password" (a .body))) (not (a .verdict)) z in
+      subst (P start h′ a) (sym (accepted-is (sessionOf (a .cookie) t′) (fromBody "username" (a .body)) (fromBody "service" (a .body)) (a .random) t′)) (admitting-ok start h′ a t′ spent-first (not-false (a .verdict) (n .1)) (own-live (n .0)))))
 
   -- the same, with the spending said in the call's own items
   widen : (items : List Item) (s : Step) → Ok start h′ path.Login items s → Ok start h path.Login (items ++ (Spent (fromBody "lt" (a .body)) ∷ [])) s
@@ -93,6 +87,6 @@ module _ (start : ℕ) (h : List Item) (t : Table) (R : Reached start h t) (a : 
   by-body false = widen _ _ credentials-ok
 
   pub login-post-ok :
-    (let s = loginPost (a .body) (bring a) t in Ok start h path.Login (readPost path.Login a (replyAnswer (s .reply)) (replyText (s .reply)) (s .cookie) (s .cleared)) s)
+      (let s = loginPost (a .body) (bring a) t in Ok start h path.Login (readPost path.Login a (replyAnswer (s .reply)) (replyText (s .reply)) (s .cookie) (s .cleared)) s)
   unfolding loginPost readPost
   login-post-ok = by-body (malformed true bodyNames (a .body))

@@ -1,15 +1,15 @@
 -- What each clause gives the account: the facts that a wrong clause would break. Assumes nothing.
-use mathlib.Core.Path.{_≡_, refl, sym, ap, _∙_}
-use mathlib.Core.Bool.{Bool, true, false, not, _&&_}
+use mathlib.Core.Path.{_≡_, refl}
+use mathlib.Core.Bool.{Bool, true, false}
 use mathlib.Core.List.{List, [], _∷_}
 use Prim.Native.Nat.{ℕ}
 use lib.Dec.{eqb}
-use Rattle.protocol.specs.Bytes.{if, same}
+use Rattle.protocol.specs.Bytes.{if}
 use Rattle.protocol.specs.Tickets.{aProxy, iouText}
-use Rattle.protocol.specs.Records.{Rec, freeRec}
-use Rattle.protocol.specs.Table.{Table, recAt, putAt}
+use Rattle.protocol.specs.Records.{Rec}
+use Rattle.protocol.specs.Table.{Table, recAt}
 use Rattle.protocol.specs.Answers.{successText}
-use Rattle.protocol.specs.Steps.{remove, endSession, sessionOf, ticketSlot, waitingSlot, chainOf, takesProxies}
+use Rattle.protocol.specs.Steps.{remove, sessionOf, ticketSlot, waitingSlot, chainOf, takesProxies}
 use Rattle.protocol.specs.declared.Validator.{Validator}
 use Rattle.protocol.specs.declared.Validator.the-variants as validator
 use Rattle.protocol.proofs.Laws.{same-eq}
@@ -57,8 +57,8 @@ module _ (start : ℕ) (h : List Item) (t : Table) (R : Reached start h t) (tick
 -- a waiting grant that is settled waits no more, and the answer names its user
 module _ (start : ℕ) (h : List Item) (t : Table) (R : Reached start h t) (serial : ℕ) (e : eqb (waitingSlot serial t) 0 ≡ false) where
   pub settled-owes : (outcome : Bool) (said : Text)
-    → said ≡ successText (userOf (recAt (waitingSlot serial t) (t .slots)) t) (if outcome (iouText (recAt (waitingSlot serial t) (t .slots) .iou)) []) (chainOf (recAt (waitingSlot serial t) (t .slots) .parent) (t .slots))
-    → OwesSettle start h serial outcome said
+      → said ≡ successText (userOf (recAt (waitingSlot serial t) (t .slots)) t) (if outcome (iouText (recAt (waitingSlot serial t) (t .slots) .iou)) []) (chainOf (recAt (waitingSlot serial t) (t .slots) .parent) (t .slots))
+      → OwesSettle start h serial outcome said
   unfolding userOf
   settled-owes outcome said bytes = settle-owes start h t R serial e outcome said bytes
 

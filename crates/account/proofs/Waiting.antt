@@ -1,23 +1,23 @@
 -- In every table of a run all records live, so the tickets that wait are all records of kind 3 and 4. Assumes nothing.
-use mathlib.Core.Path.{_≡_, refl, sym, ap, ap₂, _∙_}
-use mathlib.Core.Bool.{Bool, true, false, not, _&&_, _||_}
+use mathlib.Core.Path.{_≡_, refl}
+use mathlib.Core.Bool.{true, false, _&&_}
 use mathlib.Core.List.{List, [], _∷_}
-use Prim.Native.Nat.{ℕ, zero, suc, _+_}
+use Prim.Native.Nat.{ℕ, suc, _+_}
 use native.Mathlib.Omega.{arith}
 use borrow.Author.Tests.{eqb-true, ne-eqb}
-use lib.Dec.{eqb, leb, ltb}
+use lib.Dec.{eqb, leb}
 use lib.ListN.{length}
 use Rattle.protocol.specs.Bytes.{if}
 use Rattle.protocol.specs.Tickets.{aFree, aService, aProxy, lifetime}
 use Rattle.protocol.specs.Records.{Rec, live, serialRight, expiryRight}
-use Rattle.protocol.specs.Table.{Table, decodeTable, tableLawful, allRight, countKind}
-use Rattle.protocol.specs.Calls.{Inputs, inputs, refusal, delivered, unchanged, stepOf, answerOf, finishRefusal, finishOf, formatRefusal, formatOf}
+use Rattle.protocol.specs.Table.{decodeTable, tableLawful, allRight, countKind}
+use Rattle.protocol.specs.Calls.{Inputs, inputs, refusal, answerOf, finishRefusal, finishOf, formatRefusal, formatOf}
 use Rattle.protocol.proofs.Laws.{both, own, right-cons, right-own, rules, lawful-rules}
 use Rattle.protocol.proofs.Lasting.{answer-lasts, finish-lasts, format-lasts}
 use Rattle.account.specs.History.{Text, Asked, Told, Call, ask, tell, served, tableAfter}
 use Rattle.account.specs.Notebook.{isTicket}
 use Rattle.account.specs.Account.{one, waitingAmong, waitingIn}
-use Rattle.account.proofs.Base.{Case, is, isnt, case, clash}
+use Rattle.account.proofs.Base.{Case, is, isnt, case}
 
 -- a record that is not free lives
 right-live : (c n : ℕ) (r : Rec) → (if (eqb (r .kind) aFree) (eqb (r .serial) 0 && eqb (r .expiry) 0) (serialRight n (r .serial) && expiryRight c r)) ≡ true → eqb (r .kind) aFree ≡ false → live c r ≡ true
@@ -32,6 +32,7 @@ one-record c r l = go (case (eqb (r .kind) aService)) (case (eqb (r .kind) aProx
   where
     some : (k : ℕ) → r .kind ≡ suc k → live c r ≡ true
     some k e = l (ne-eqb (r .kind) 0 (λ z. omega arith))
+
     go : Case (eqb (r .kind) aService) → Case (eqb (r .kind) aProxy) → one (isTicket (r .kind) && live c r) ≡ if (eqb (r .kind) aService) 1 0 + if (eqb (r .kind) aProxy) 1 0
     go (is x) y = let k : r .kind ≡ 3 = eqb-true (r .kind) 3 x in rw (some 2 k, k)
     go (isnt x) (is y) = let k : r .kind ≡ 4 = eqb-true (r .kind) 4 y in rw (some 3 k, k)
@@ -51,6 +52,7 @@ ask-lawful b a l = go (case (eqb (refusal i) 0))
   where
     i : Inputs
     i = inputs b (a .register) (a .method) (a .target) (a .body) (a .cookie) (a .time) (a .random) (a .verdict) (a .out) (a .cookieOut)
+
     go : Case (eqb (refusal i) 0) → tableLawful (answerOf i .table) ≡ true
     go (is z) = answer-lasts i (eqb-true (refusal i) 0 z)
     go (isnt z) = rw z l

@@ -1,25 +1,22 @@
 -- Demand 3: the account of a table's whole life.
 use mathlib.Core.Path.{_≡_}
-use mathlib.Core.Bool.{Bool, true, false, _&&_, _||_, not}
+use mathlib.Core.Bool.{Bool, true, false, _&&_}
 use mathlib.Core.List.{List, [], _∷_}
 use Prim.Native.Nat.{ℕ, _+_, _≤_}
-use lib.Dec.{eqb, ltb}
 use Rattle.protocol.specs.Bytes.{if, ascii, same}
 use Rattle.protocol.specs.Records.{Rec, live}
-use Rattle.protocol.specs.Table.{Table, decodeTable}
+use Rattle.protocol.specs.Table.{decodeTable}
 use Rattle.protocol.specs.Request.{pathPart, pathNamed}
 use Rattle.protocol.specs.Answers.{successText}
 use Rattle.protocol.specs.Steps.{isPlain, takesProxies}
 use Rattle.protocol.specs.declared.Answer.{Answer}
 use Rattle.protocol.specs.declared.Answer.the-variants as answer
-use Rattle.protocol.specs.declared.Method.{Method}
-use Rattle.protocol.specs.declared.Method.the-variants as method
 use Rattle.protocol.specs.declared.Path.{Path}
 use Rattle.protocol.specs.declared.Path.the-variants as path
 use Rattle.protocol.specs.declared.Validator.{Validator}
-use Rattle.account.specs.History.{Text, Asked, Told, Call, ask, tell, Event}
+use Rattle.account.specs.History.{Text, Call, ask, tell, Event}
 use Rattle.account.specs.Reading.{Item, Passed, Showed, Spent, Ended, Opened, Issued, Proxied, Burnt, Welcomed, CalledBack, Settled, trailOf}
-use Rattle.account.specs.Notebook.{Notebook, notebook, tally, isTicket, isBurnt, isEnded, isExpired}
+use Rattle.account.specs.Notebook.{notebook, tally, isTicket, isBurnt, isEnded, isExpired}
 use Rattle.account.specs.Truth.{Origin, Granting, spentLive, originOf, calledOf}
 
 -- Counted straight from the answers
@@ -178,8 +175,8 @@ pub record Account (start : ℕ) (h : List Event) (b : Text) : Type 0 where
   pub accepts-read : accepted h ≡ sumIn acceptsIn (trailOf h)
   -- every ticket issued is accounted for
   pub balance :
-    issued h
-    ≡ accepted h + tally isBurnt (notebook start (trailOf h) .book) + tally isEnded (notebook start (trailOf h) .book) + tally isExpired (notebook start (trailOf h) .book) + waitingIn b
+      issued h
+      ≡ accepted h + tally isBurnt (notebook start (trailOf h) .book) + tally isEnded (notebook start (trailOf h) .book) + tally isExpired (notebook start (trailOf h) .book) + waitingIn b
   -- no ticket gets two success answers
   pub once : (x : Text) → successes start (trailOf h) x ≤ 1
   -- every acceptance and every success answer is right: service, credentials, user and chain

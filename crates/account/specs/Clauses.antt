@@ -1,10 +1,10 @@
 -- The clauses of the steps on which the account stands, written out as document 01 has them; the proofs show that they are protocol's.
 -- The theorem is proved of these, so that a wrong clause here is refused by the theorem's own facts.
 use mathlib.Core.Bool.{Bool, true, false, _&&_, not}
-use mathlib.Core.List.{List, []}
+use mathlib.Core.List.{[]}
 use Prim.Native.Nat.{ℕ}
 use lib.Dec.{eqb}
-use Rattle.protocol.specs.Bytes.{if, isEmpty, same}
+use Rattle.protocol.specs.Bytes.{if, same}
 use Rattle.protocol.specs.Tickets.{aProxy, iouText}
 use Rattle.protocol.specs.Records.{Rec}
 use Rattle.protocol.specs.Table.{Table, recAt}
