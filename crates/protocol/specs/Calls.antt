@@ -23,18 +23,21 @@ unless right n later = if right later n
 abbrev pub refusedOutcome : ℕ → Outcome
 refusedOutcome n = record { refusal = n; answer = answer.Nothing; status = 0; length = 0; «cookie_length» = 0; «cookie_cleared» = false; «callback_serial» = 0 }
 
--- an answered call's result
-unfoldable pub outcomeOf : Step → Outcome
-outcomeOf s =
+-- an answered call's result: by what it says, the length of the cookie that it writes, and whether the cookie is cleared
+unfoldable pub outcomeWith : Reply → ℕ → Bool → Outcome
+outcomeWith reply cookie cleared =
     record {
       refusal = 0;
-      answer = replyAnswer (s .reply);
-      status = statusOf (replyAnswer (s .reply));
-      length = length (replyText (s .reply));
-      «cookie_length» = length (s .cookie);
-      «cookie_cleared» = s .cleared;
-      «callback_serial» = serialOf (replyAnswer (s .reply));
+      answer = replyAnswer reply;
+      status = statusOf (replyAnswer reply);
+      length = length (replyText reply);
+      «cookie_length» = cookie;
+      «cookie_cleared» = cleared;
+      «callback_serial» = serialOf (replyAnswer reply);
     }
+
+abbrev pub outcomeOf : Step → Outcome
+outcomeOf s = outcomeWith (s .reply) (length (s .cookie)) (s .cleared)
 
 -- answer
 

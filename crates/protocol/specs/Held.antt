@@ -1,15 +1,15 @@
 -- Words for contracts below the calls: what the bytes of a lent table hold, and what a step has left behind.
 use mathlib.Core.Path.{_≡_}
-use mathlib.Core.Bool.{true}
+use mathlib.Core.Bool.{true, false}
 use mathlib.Core.List.{List, [], _∷_}
 use Prim.Native.Nat.{ℕ, _+_, _*_, _^_, _≤_, _<_}
 use lib.ListN.{length}
 use Rattle.protocol.specs.Bytes.{spliced}
 use Rattle.protocol.specs.Records.{Rec}
 use Rattle.protocol.specs.Table.{Table, encodeTable, decodeTable, rulesHold, lastTime}
-use Rattle.protocol.specs.Answers.{replyText}
+use Rattle.protocol.specs.Answers.{Reply, replyText}
 use Rattle.protocol.specs.Steps.{Step}
-use Rattle.protocol.specs.Calls.{outcomeOf}
+use Rattle.protocol.specs.Calls.{outcomeWith, outcomeOf}
 use Rattle.protocol.specs.declared.Outcome.{Outcome}
 
 -- texts and secrets that a record's block has room for
@@ -54,8 +54,19 @@ pub record Lawful (b : List ℕ) : Type 0 where
   pub fine : Fine b
   pub rules : rulesHold (decodeTable b) ≡ true
 
--- a step was done: the result r, the table's bytes b, and output and cookie output, o and c before it, o′ and c′ after it,
--- are as the step tells
+-- A reply was said: the result r is one without a cookie, and the output, o before and o′ after it, holds the reply's bytes
+pub record Said (reply : Reply) (r : Outcome) (o o′ : List ℕ) : Type 0 where
+  pub outcome : r ≡ outcomeWith reply 0 false
+  pub out : o′ ≡ spliced o 0 (replyText reply)
+
+-- a step was done that writes no cookie: the result, the table's bytes b and the output are as the step tells
+pub record Done (s : Step) (r : Outcome) (b o o′ : List ℕ) : Type 0 where
+  pub outcome : r ≡ outcomeOf s
+  pub table : Holds b (s .table)
+  pub out : o′ ≡ spliced o 0 (replyText (s .reply))
+  pub cookie : s .cookie ≡ []
+
+-- a step was done: so is the cookie output, c before and c′ after it
 pub record Did (s : Step) (r : Outcome) (b o o′ c c′ : List ℕ) : Type 0 where
   pub outcome : r ≡ outcomeOf s
   pub table : Holds b (s .table)

@@ -12,3 +12,4 @@ pub mod Calls
 pub mod Written
 pub mod Held
 pub mod Worked
+pub mod Run

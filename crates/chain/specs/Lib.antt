@@ -1,0 +1,2 @@
+-- What the walk from grant to parent needs.
+pub mod Walk

@@ -1,0 +1,69 @@
+// A success told with its proxies: the callbacks from a grant to its parents, newest first, the depth falling by one.
+use protocol::Answer;
+use protocol::Outcome;
+ghost use mathlib.Core.Path.{_≡_};
+ghost use Prim.Native.Nat.{_≤_};
+ghost use lib.ListN.{length};
+ghost use Rattle.protocol.specs.Table.{decodeTable, recAt};
+ghost use Rattle.protocol.specs.Answers.{Success, proxyLines, proxiesText};
+ghost use Rattle.protocol.specs.Steps.{chainFrom, chainOf};
+ghost use Rattle.protocol.specs.Written.{Room, Wrote};
+ghost use Rattle.protocol.specs.Held.{Lawful, Said};
+ghost use Rattle.chain.specs.Walk.{Walk, Within, Told};
+
+// The lines of the proxies from the grant in `slot` on, `depth` of them.
+pub fn put_chain(table: &[u8], slot: usize, depth: u8, out: &mut [u8], at: usize) -> usize
+    requires { ⌜ (Walk (now table) slot depth) × (Room (now out) at (proxyLines (chainFrom depth slot (decodeTable (now table) .slots)))) ⌝ }
+    ensures { λ r. ⌜ Wrote (now (out .entry)) at (now (out .exit)) r (proxyLines (chainFrom depth slot (decodeTable (now (table .entry)) .slots))) ⌝ }
+{
+    if depth == 0 {
+        return at;
+    }
+    let callback = table::text_of(table, slot);
+    let next = xml::put_proxy(out, at, callback);
+    let parent = table::parent_of(table, slot) as usize;
+    put_chain(table, parent, depth - 1, out, next)
+}
+
+// How deep the grant in a slot is; 0 for no slot.
+pub fn depth_at(table: &[u8], slot: usize) -> u8
+    requires { ⌜ Within slot (now table) ⌝ }
+    ensures { λ r. ⌜ r ≡ recAt slot (decodeTable (now (table .entry)) .slots) .depth ⌝ }
+{
+    if slot == 0 {
+        return 0;
+    }
+    table::depth_of(table, slot)
+}
+
+// `cas:proxies`, left out where there are none.
+fn put_proxies(table: &[u8], parent: usize, out: &mut [u8], at: usize) -> usize
+    requires { ⌜ (Lawful (now table)) × (Within parent (now table)) × (Room (now out) at (proxiesText (chainOf parent (decodeTable (now table) .slots)))) ⌝ }
+    ensures { λ r. ⌜ Wrote (now (out .entry)) at (now (out .exit)) r (proxiesText (chainOf parent (decodeTable (now (table .entry)) .slots))) ⌝ }
+{
+    let depth = depth_at(table, parent);
+    if depth == 0 {
+        return at;
+    }
+    let first = xml::put_proxies_open(out, at);
+    let end = put_chain(table, parent, depth, out, first);
+    xml::put_proxies_close(out, end)
+}
+
+// Success: the user of a session, an IOU if it is not empty, and the proxies from a parent on.
+pub fn say_success(
+    table: &[u8],
+    session: usize,
+    iou: &[u8],
+    parent: usize,
+    out: &mut [u8],
+) -> Outcome
+    requires { ⌜ Told (now table) session (now iou) parent (now out) ⌝ }
+    ensures { λ r. ⌜ Said (Success (recAt session (decodeTable (now (table .entry)) .slots) .text) (now (iou .entry)) (chainOf parent (decodeTable (now (table .entry)) .slots))) r (now (out .entry)) (now (out .exit)) ⌝ }
+{
+    let user = table::text_of(table, session);
+    let head = xml::put_success_head(out, user, iou);
+    let to = put_proxies(table, parent, out, head);
+    let n = xml::put_success_tail(out, to);
+    reply::told(Answer::Xml(true), n)
+}

@@ -1,0 +1,52 @@
+-- `decode::decode_value` meets its contract. Invariant: what is left to write is what is left to decode, and its bytes are bytes. Assumes nothing.
+use borrow.Author.Needs.{needs}
+use mathlib.Core.Path.{_≡_}
+use mathlib.Core.Bool.{true}
+use Prim.Native.Nat.{_-_}
+use lib.ListN.{length, drop}
+use Rattle.protocol.specs.Bytes.{allWithin}
+use Rattle.protocol.specs.Request.{decoded}
+use Rattle.text.proofs.Splice.{Left, left-start}
+use Rattle.decode.proofs.Laws.{write-small, write-room, write-turn, write-right, write-done}
+use Rattle.decode.proofs.decode_value.Statement.{statement}
+use Rattle.decode.proofs.decode_value.Tie as tie
+
+abbrev Inv-loop : tie.InvT-loop
+Inv-loop raw in-body out₀ i₀ to₀ out i to = Left out₀ 0 (decoded in-body raw) out to (decoded in-body (drop i raw)) × (allWithin 0 255 (decoded in-body (drop i raw)) ≡ true)
+
+abbrev μ-loop : tie.MeasureT-loop
+μ-loop raw in-body out₀ i₀ to₀ out i to = length raw - i
+
+loop-holds : tie.Need-loop-holds Inv-loop μ-loop
+loop-holds c = search (needs, left-start)
+
+cast-out : tie.Need-cast-out Inv-loop μ-loop
+cast-out c = search (needs, write-small)
+
+slice-write-out : tie.Need-slice-write-out Inv-loop μ-loop
+slice-write-out c = search (needs, write-room)
+
+add-to : tie.Need-add-to Inv-loop μ-loop
+add-to c = search (needs, write-room)
+
+loop-again : tie.Need-loop-again Inv-loop μ-loop
+loop-again c = search (needs, write-turn, write-right)
+
+returns : tie.Need-returns Inv-loop μ-loop
+returns c = search (needs, write-done)
+
+pub decode-value-spec : {M : Type 1} → statement M
+decode-value-spec =
+    tie.close
+    (tie.spec
+    Inv-loop
+    μ-loop
+    loop-holds
+    (λ c κs. search needs)
+    cast-out
+    slice-write-out
+    add-to
+    (λ c. search needs)
+    loop-again
+    (λ c. search needs)
+    returns)

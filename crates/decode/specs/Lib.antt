@@ -1,0 +1,2 @@
+-- What the contracts of decoding cite.
+pub mod Judging

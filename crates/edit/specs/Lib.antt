@@ -1,0 +1,2 @@
+-- What the contracts of the edits are said in.
+pub mod Edits

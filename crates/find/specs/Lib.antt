@@ -1,0 +1,2 @@
+-- What the contracts of the searches are said in.
+pub mod Searches

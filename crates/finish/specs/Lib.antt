@@ -1,0 +1,2 @@
+-- What a waiting grant stands on.
+pub mod Waits

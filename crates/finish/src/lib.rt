@@ -1,0 +1,74 @@
+// A callback finished: the waiting grant of a serial becomes a grant or is removed, and success is told of it.
+use find::Found;
+use protocol::Outcome;
+use xml::Code;
+ghost use mathlib.Core.Path.{_≡_};
+ghost use mathlib.Core.List.{[]};
+ghost use Prim.Native.Nat.{_≤_};
+ghost use lib.ListN.{length};
+ghost use Rattle.protocol.specs.Tickets.{iouText};
+ghost use Rattle.protocol.specs.Table.{decodeTable, recAt};
+ghost use Rattle.protocol.specs.Answers.{Success};
+ghost use Rattle.protocol.specs.Steps.{put, remove, chainOf, granted, finished, finishAt, finish};
+ghost use Rattle.protocol.specs.Held.{Lawful, Said, Done};
+ghost use Rattle.finish.specs.Waits.{Waits};
+
+// Success of the waiting grant in a slot: its session's user, an IOU if it is not empty, and the proxies from its parent on.
+fn tell(table: &[u8], slot: usize, iou: &[u8], out: &mut [u8]) -> Outcome
+    requires { ⌜ (Waits slot (now table)) × (length (now iou) ≤ 64) × (8192 ≤ length (now out)) ⌝ }
+    ensures { λ r. ⌜ Said (Success (recAt (recAt slot (decodeTable (now (table .entry)) .slots) .session) (decodeTable (now (table .entry)) .slots) .text) (now (iou .entry)) (chainOf (recAt slot (decodeTable (now (table .entry)) .slots) .parent) (decodeTable (now (table .entry)) .slots))) r (now (out .entry)) (now (out .exit)) ⌝ }
+{
+    let session = table::session_of(table, slot) as usize;
+    let parent = table::parent_of(table, slot) as usize;
+    chain::say_success(table, session, iou, parent, out)
+}
+
+// Yes, with room for the IOU's text: told, then a grant.
+fn grant_by(table: &mut [u8], slot: usize, iou: &mut [u8], out: &mut [u8]) -> Outcome
+    requires { ⌜ (Waits slot (now table)) × (64 ≤ length (now iou)) × (8192 ≤ length (now out)) ⌝ }
+    ensures { λ r. ⌜ Done (finished (recAt slot (decodeTable (now (table .entry)) .slots)) (iouText (recAt slot (decodeTable (now (table .entry)) .slots) .iou)) (decodeTable (now (table .entry))) (put slot (granted (recAt slot (decodeTable (now (table .entry)) .slots)) (decodeTable (now (table .entry)) .slots)) (decodeTable (now (table .entry))))) r (now (table .exit)) (now (out .entry)) (now (out .exit)) ⌝ }
+{
+    let n = ticket::put_iou(iou, 0, table::iou_of(table, slot));
+    let told = tell(table, slot, &iou[..n], out);
+    table::make_grant(table, slot);
+    told
+}
+
+fn grant(table: &mut [u8], slot: usize, out: &mut [u8]) -> Outcome
+    requires { ⌜ (Waits slot (now table)) × (8192 ≤ length (now out)) ⌝ }
+    ensures { λ r. ⌜ Done (finished (recAt slot (decodeTable (now (table .entry)) .slots)) (iouText (recAt slot (decodeTable (now (table .entry)) .slots) .iou)) (decodeTable (now (table .entry))) (put slot (granted (recAt slot (decodeTable (now (table .entry)) .slots)) (decodeTable (now (table .entry)) .slots)) (decodeTable (now (table .entry))))) r (now (table .exit)) (now (out .entry)) (now (out .exit)) ⌝ }
+{
+    let mut iou = [0u8; 64];
+    grant_by(table, slot, &mut iou, out)
+}
+
+// No: told without IOU, then removed.
+fn remove(table: &mut [u8], slot: usize, out: &mut [u8]) -> Outcome
+    requires { ⌜ (Waits slot (now table)) × (8192 ≤ length (now out)) ⌝ }
+    ensures { λ r. ⌜ Done (finished (recAt slot (decodeTable (now (table .entry)) .slots)) [] (decodeTable (now (table .entry))) (remove slot (decodeTable (now (table .entry))))) r (now (table .exit)) (now (out .entry)) (now (out .exit)) ⌝ }
+{
+    let told = tell(table, slot, b"", out);
+    table::free_record(table, slot);
+    told
+}
+
+fn settle(table: &mut [u8], slot: usize, outcome: bool, out: &mut [u8]) -> Outcome
+    requires { ⌜ (Waits slot (now table)) × (8192 ≤ length (now out)) ⌝ }
+    ensures { λ r. ⌜ Done (finishAt slot (recAt slot (decodeTable (now (table .entry)) .slots)) outcome (decodeTable (now (table .entry)))) r (now (table .exit)) (now (out .entry)) (now (out .exit)) ⌝ }
+{
+    if outcome {
+        return grant(table, slot, out);
+    }
+    remove(table, slot, out)
+}
+
+// The outcome of the callback of a serial.
+pub fn finish(table: &mut [u8], serial: u32, outcome: bool, out: &mut [u8]) -> Outcome
+    requires { ⌜ (Lawful (now table)) × (8192 ≤ length (now out)) ⌝ }
+    ensures { λ r. ⌜ Done (finish serial outcome (decodeTable (now (table .entry)))) r (now (table .exit)) (now (out .entry)) (now (out .exit)) ⌝ }
+{
+    match find::find_waiting(table, serial) {
+        Found::At(slot) => settle(table, slot, outcome, out),
+        Found::Nothing => reply::say_failure(out, Code::InvalidTicket),
+    }
+}

@@ -1,0 +1,2 @@
+-- The laws of the form reader.
+pub mod Laws

@@ -1,0 +1,4 @@
+-- Laws of the judge, and what a lawful table is worth to callers.
+pub mod Slots
+pub mod Whole
+pub mod Worth

@@ -1,0 +1,40 @@
+-- The header first; within it the slots and the count decide.
+use Rattle.rules.proofs.Laws.{Bytes}
+use Rattle.judge.proofs.Whole.{front-long, front-whole, clock-low, table-wrong, table-right}
+use borrow.Author.Needs.{needs}
+use Rattle.judge.proofs.blocks_lawful.Statement.{statement}
+use Rattle.judge.proofs.blocks_lawful.Tie as tie
+
+-- the table holds bytes
+bytes : (c : tie.After-shared-slice-known) → Bytes (c .before .args .table .now)
+bytes c = record { each = λ i. c .shared-slice-known .given i .fits }
+
+slice-aggregate-head-right : tie.Need-slice-aggregate-head-right
+slice-aggregate-head-right c = search front-long
+
+head-right-requires : tie.Need-head-right-requires
+head-right-requires c κs = (search front-whole, search needs)
+
+slots-right-requires : tie.Need-slots-right-requires
+slots-right-requires c κs = (search needs, search clock-low, search needs)
+
+returns : tie.Need-returns
+returns c = search (table-right, bytes)
+
+returns-2 : tie.Need-returns-2
+returns-2 c = search (table-wrong, bytes)
+
+pub blocks-lawful-spec : {M : Type 1} → statement M
+blocks-lawful-spec =
+    tie.close
+    (tie.spec
+    slice-aggregate-head-right
+    (λ c. search needs)
+    head-right-requires
+    (λ c κs. search needs)
+    (λ c κs. search needs)
+    (λ c κs. search needs)
+    slots-right-requires
+    (λ c κs. search needs)
+    returns
+    returns-2)

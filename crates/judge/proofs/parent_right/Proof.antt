@@ -1,0 +1,21 @@
+-- By the definition.
+use Rattle.judge.proofs.Slots.{parent-right}
+use borrow.Author.Needs.{needs}
+use Rattle.judge.proofs.parent_right.Statement.{statement}
+use Rattle.judge.proofs.parent_right.Tie as tie
+
+returns : tie.Need-returns
+returns c = search parent-right
+
+pub parent-right-spec : {M : Type 1} → statement M
+parent-right-spec =
+    tie.close
+    (tie.spec
+    (λ c. search needs)
+    (λ c. search needs)
+    (λ c. search needs)
+    (λ c κs. search needs)
+    (λ c κs. search needs)
+    (λ c κs. search needs)
+    (λ c κs. search needs)
+    returns)

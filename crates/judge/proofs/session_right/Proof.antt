@@ -1,0 +1,11 @@
+-- By the definition.
+use Rattle.judge.proofs.Slots.{session-right}
+use borrow.Author.Needs.{needs}
+use Rattle.judge.proofs.session_right.Statement.{statement}
+use Rattle.judge.proofs.session_right.Tie as tie
+
+returns : tie.Need-returns
+returns c = search session-right
+
+pub session-right-spec : {M : Type 1} → statement M
+session-right-spec = tie.close (tie.spec (λ c κs. search needs) (λ c κs. search needs) returns)

@@ -1,0 +1,2 @@
+-- What the judge computes.
+pub mod Tests

@@ -1,0 +1,2 @@
+-- The laws of looking names up.
+pub mod Laws

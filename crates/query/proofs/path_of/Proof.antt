@@ -1,0 +1,17 @@
+-- `query::path_of` meets its contract: the path is what stands before the first `?`. Assumes nothing.
+use mathlib.Core.Path.{sym}
+use borrow.Author.Needs.{needs}
+use Rattle.query.proofs.Laws.{path-cut}
+use lib.Seq.{length-take-le}
+use Rattle.query.proofs.path_of.Statement.{statement}
+use Rattle.query.proofs.path_of.Tie as tie
+
+slice-aggregate-path-named : tie.Need-slice-aggregate-path-named
+slice-aggregate-path-named c = sym (length-take-le _ _ (search needs))
+
+returns : tie.Need-returns
+returns c = search (needs, path-cut)
+
+pub path-of-spec : {M : Type 1} → statement M
+path-of-spec =
+    tie.close (tie.spec (λ c κs. search needs) slice-aggregate-path-named (λ c κs. search needs) returns)

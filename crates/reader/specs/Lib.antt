@@ -1,0 +1,2 @@
+-- What a reader's step answers.
+pub mod Step

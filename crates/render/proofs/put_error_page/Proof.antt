@@ -1,0 +1,17 @@
+-- An error page: its template, filled in with the status.
+use borrow.Author.Needs.{needs}
+use Rattle.render.proofs.Texts.{error-room, error-wrote}
+use Rattle.render.proofs.put_error_page.Statement.{statement}
+use Rattle.render.proofs.put_error_page.Tie as tie
+
+pub put-error-page-spec : {M : Type 1} → statement M
+put-error-page-spec =
+    tie.close
+    (tie.spec
+    (λ c. search needs)
+    (λ c. search needs)
+    (λ c. search needs)
+    (λ c. search needs)
+    (λ c κs. search (needs, error-room))
+    (λ c. search needs)
+    (λ c. search (needs, error-wrote)))

@@ -1,0 +1,2 @@
+-- What a writer's contract gives for a reply.
+pub mod Laws

@@ -1,0 +1,2 @@
+-- The result that goes with an answer.
+pub mod Told

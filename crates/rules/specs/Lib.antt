@@ -1,0 +1,2 @@
+-- What the code computes of a block.
+pub mod Tests

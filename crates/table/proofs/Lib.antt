@@ -1,0 +1,2 @@
+-- Laws of the table's leaves.
+pub mod Laws

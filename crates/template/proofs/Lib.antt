@@ -1,0 +1,2 @@
+-- Laws of the engine.
+pub mod Filling

@@ -1,0 +1,3 @@
+-- Laws of writing, and of the loops that write.
+pub mod Splice
+pub mod Laws
