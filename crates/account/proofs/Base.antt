@@ -33,6 +33,10 @@ pub fork : {A : Type 0} (P : A → Type 0) (b : Bool) {x y : A} → (b ≡ true 
 fork P true f g = f refl
 fork P false f g = g refl
 
+pub if-same : {A : Type 0} (b : Bool) (x : A) → if b x x ≡ x
+if-same true x = refl
+if-same false x = refl
+
 -- two tests that pass together are one
 pub one-test : (a b : Bool) → (a ≡ true → b ≡ true) → (b ≡ true → a ≡ true) → a ≡ b
 one-test true true f g = refl

@@ -15,7 +15,7 @@ use Rattle.protocol.specs.Bytes.{if}
 use Rattle.protocol.specs.Records.{Rec, nameOf}
 use Rattle.protocol.proofs.Laws.{both}
 use Rattle.account.specs.History.{Text}
-use Rattle.account.specs.Notebook.{Fate, expired, Line, Notebook, isHeld, close, closeLine, closeAll, enter}
+use Rattle.account.specs.Notebook.{Fate, expired, Line, Notebook, isHeld, close, closeLine, closeAll, raise, raiseLine, enter}
 use Rattle.account.proofs.Base.{Case, is, isnt, case, clash, sum-set}
 use Rattle.account.proofs.Sim.{Slot, noSlot, on, alive, lives, weight, weigh, heft, total, Up, upOf, Under, Placed, login, session, below, Good, Before, Sim, good-move, Turn, stays, goes, never, through, sim-through}
 
@@ -79,6 +79,21 @@ pub close-ref : (F : Fate) (q : Line → Bool) (e : Line) → closeLine F q e .r
 close-ref F q e = go (isHeld (e .fate) && q e)
   where
     go : (b : Bool) → if b (close F e) e .ref ≡ e .ref
+    go true = refl
+    go false = refl
+
+-- nor does raising
+pub raise-name : (q : Line → Bool) (e : Line) → raiseLine q e .name ≡ e .name
+raise-name q e = go (isHeld (e .fate) && q e)
+  where
+    go : (b : Bool) → if b (raise e) e .name ≡ e .name
+    go true = refl
+    go false = refl
+
+pub raise-ref : (q : Line → Bool) (e : Line) → raiseLine q e .ref ≡ e .ref
+raise-ref q e = go (isHeld (e .fate) && q e)
+  where
+    go : (b : Bool) → if b (raise e) e .ref ≡ e .ref
     go true = refl
     go false = refl
 

@@ -13,7 +13,7 @@ use Rattle.protocol.specs.Table.{Table, encodeTable, decodeTable, tableShape, t
 use Rattle.protocol.specs.Request.{pathPart, pathNamed}
 use Rattle.protocol.specs.Answers.{replyText, replyAnswer}
 use Rattle.protocol.specs.Steps.{Step, tick, finish}
-use Rattle.protocol.specs.Calls.{Inputs, Result, inputs, refusal, stepOf, outcomeOf, delivered, unchanged, answerOf, finishRefusal, finishOf, formatRefusal, formatOf}
+use Rattle.protocol.specs.Calls.{Inputs, Result, inputs, refusal, stepOf, outcomeWith, delivered, unchanged, answerOf, finishRefusal, finishOf, formatRefusal, formatOf}
 use Rattle.protocol.specs.declared.Path.{Path}
 use Rattle.protocol.specs.declared.Path.the-variants as path
 use Rattle.protocol.specs.declared.Answer.{Answer}
@@ -38,7 +38,7 @@ use Rattle.account.proofs.Others.{finish-ok, request-ok}
 
 -- what is read of a delivered step
 read-delivered : (c : Call) (s : Step) (out cookie : Text) → read (eventOf c (delivered s out cookie)) ≡ readCall c (replyAnswer (s .reply)) (replyText (s .reply)) (s .cookie) (s .cleared)
-unfolding read eventOf delivered outcomeOf
+unfolding read eventOf delivered outcomeWith
 read-delivered c s out cookie = rw (said-is out (replyText (s .reply)), said-is cookie (s .cookie))
 
 -- a sound table is read back as it was written
@@ -81,7 +81,7 @@ module _ (start : ℕ) (h : List Item) (b : Text) (R : Reached start h (decodeTa
   stepped = request-ok start (PassedAt (a .time) ∷ h) (tick (a .time) (decodeTable b)) (reach-pass start h (decodeTable b) R (a .time)) a (a .method) p
 
   answered : refusal i ≡ 0 → After start h (ask a) (delivered (stepOf i) (a .out) (a .cookieOut))
-  unfolding delivered outcomeOf issuedBy acceptedBy readCall
+  unfolding delivered outcomeWith issuedBy acceptedBy readCall
   answered e =
       let s : Step = stepOf i in
       let items : List Item = readAsked (a .method) p a (replyAnswer (s .reply)) (replyText (s .reply)) (s .cookie) (s .cleared) in
@@ -122,7 +122,7 @@ module _ (start : ℕ) (h : List Item) (b : Text) (R : Reached start h (decodeTa
   no-counts (answer.Callback n) said = (refl, refl)
 
   told : finishRefusal b (f .time) (length (f .out)) ≡ 0 → After start h (tell f) (delivered (finish (f .serial) (f .outcome) t) (f .out) [])
-  unfolding delivered outcomeOf issuedBy acceptedBy readCall
+  unfolding delivered outcomeWith issuedBy acceptedBy readCall
   told e =
       let s : Step = finish (f .serial) (f .outcome) t in
       let items : List Item = readFinish f (replyAnswer (s .reply)) (replyText (s .reply)) in

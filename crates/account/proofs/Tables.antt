@@ -10,13 +10,12 @@ use borrow.Author.Tests.{eq-eqb, ne-eqb, eqb-true, eqb-false, lt-ltb, not-true, 
 use lib.ListN.{getD, set, List·getD-map, length-map, length-set}
 use lib.Seq.{getD-set-same, getD-set-other}
 use lib.Dec.{ltb, eqb}
-use Rattle.protocol.specs.Bytes.{if}
 use Rattle.protocol.specs.Records.{Rec, freeRec}
 use Rattle.protocol.specs.Table.{Table, putAt}
 use Rattle.protocol.specs.Steps.{clearRec, tick, remove, slotFor, add}
 use Rattle.protocol.proofs.Added.{Room}
 use Rattle.account.specs.Notebook.{Fate, expired, Line, Notebook, isHeld, closeLine, closeAll, enter, pass}
-use Rattle.account.proofs.Base.{clash, and-not}
+use Rattle.account.proofs.Base.{if-same, clash, and-not}
 use Rattle.account.proofs.Sim.{Slot, noLine, noSlot, on, alive, lives, upOf, Under, session, Good, Sim, good-move}
 use Rattle.account.proofs.Edits.{alive-time, free-dead, under-of, home-lives, parent-lives, up-grants, sim-drop, sim-put, sim-time}
 use Rattle.account.proofs.Look.{recOf, Tied, live-inside, rec-on, size-is, zero-dead, Miss}
@@ -144,14 +143,10 @@ tied-add L t w m a la sa ra ga =
 clearS : ℕ → Slot → Slot
 clearS c a = record { r = clearRec c (a .r); e = a .e }
 
-if-same : (b : Bool) → if b freeRec freeRec ≡ freeRec
-if-same true = refl
-if-same false = refl
-
 on-clear : (c : ℕ) (A : List Slot) (i : ℕ) → on (map (clearS c) A) i ≡ clearS c (on A i)
 unfolding clearS
 on-clear c A i =
-    let d : clearS c noSlot ≡ noSlot = ap (λ (b : Rec). record { r = b; e = noLine }) (if-same (ltb c 0)) in
+    let d : clearS c noSlot ≡ noSlot = ap (λ (b : Rec). record { r = b; e = noLine }) (if-same (ltb c 0) freeRec) in
     ap (λ (d : Slot). getD (map (clearS c) A) i d) (sym d) ∙ List·getD-map (clearS c) A i noSlot
 
 map-clear : (c : ℕ) (A : List Slot) → map (clearRec c) (map recOf A) ≡ map recOf (map (clearS c) A)
@@ -161,7 +156,7 @@ map-clear c (a ∷ A) = ap (λ (l : List Rec). clearRec c (a .r) ∷ l) (map-cle
 
 clear-slots : (c : ℕ) (slots : List Rec) (A : List Slot) → freeRec ∷ slots ≡ map recOf A → freeRec ∷ map (clearRec c) slots ≡ map recOf (map (clearS c) A)
 clear-slots c slots A e =
-    ap (λ (r : Rec). r ∷ map (clearRec c) slots) (sym (if-same (ltb c 0)))
+    ap (λ (r : Rec). r ∷ map (clearRec c) slots) (sym (if-same (ltb c 0) freeRec))
     ∙ ap (map (clearRec c)) e
     ∙ map-clear c A
 

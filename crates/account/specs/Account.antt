@@ -134,6 +134,24 @@ unfoldable pub successes : ℕ → List Item → Text → ℕ
 successes start [] x = 0
 successes start (i ∷ older) x = one (wonHere start i older x) + successes start older x
 
+-- how many times a ticket was accepted
+abbrev pub takenHere : Item → Text → Bool
+takenHere (Passed time) x = false
+takenHere (Showed lt) x = false
+takenHere (Spent lt) x = false
+takenHere (Ended cookie) x = false
+takenHere (Opened cookie user signed lt) x = false
+takenHere (Issued cookie service ticket signed lt) x = false
+takenHere (Proxied pgt target ticket) x = false
+takenHere (Burnt ticket) x = false
+takenHere (Welcomed v renew ticket service said) x = same ticket x
+takenHere (CalledBack v renew ticket service url pgt iou serial) x = same ticket x
+takenHere (Settled serial outcome said) x = false
+
+unfoldable pub acceptances : List Item → Text → ℕ
+acceptances [] x = 0
+acceptances (i ∷ older) x = one (takenHere i x) + acceptances older x
+
 -- an accepted ticket: it was issued, to this very service; under renew by a call with accepted credentials; a proxy ticket only where
 -- they are taken
 pub record Rightful (v : Validator) (renew : Bool) (service : Text) (o : Origin) : Type 0 where
@@ -177,7 +195,8 @@ pub record Account (start : ℕ) (h : List Event) (b : Text) : Type 0 where
   pub balance :
       issued h
       ≡ accepted h + tally isBurnt (notebook start (trailOf h) .book) + tally isEnded (notebook start (trailOf h) .book) + tally isExpired (notebook start (trailOf h) .book) + waitingIn b
-  -- no ticket gets two success answers
+  -- no ticket is accepted twice, and none gets two success answers
+  pub accepted-once : (x : Text) → acceptances (trailOf h) x ≤ 1
   pub once : (x : Text) → successes start (trailOf h) x ≤ 1
   -- every acceptance and every success answer is right: service, credentials, user and chain
   pub honest : Honest start (trailOf h)
