@@ -1,24 +1,23 @@
 -- The kinds of edit keep the link: records leave their slots, a record is put into a free slot, a waiting grant changes in place, the clock moves.
 -- Assumes nothing.
-use mathlib.Core.Path.{_≡_, refl, sym, ap, ap₂, _∙_, subst}
+use mathlib.Core.Path.{_≡_, refl, sym, ap, _∙_}
 use mathlib.Core.Logic.{_⊎_, inl, inr, _≢_}
-use mathlib.Core.Bool.{Bool, true, false, not, _&&_, _||_}
-use mathlib.Core.List.{List, [], _∷_, _++_, map, List·Memᴰ, List·Memᴰ·cases-cons, List·Memᴰ·not-nil, Memᴰ·of-map}
-use Prim.Native.Nat.{ℕ, zero, suc, _+_, _≤_, _<_, min, max}
+use mathlib.Core.Bool.{Bool, true, false, not, _&&_}
+use mathlib.Core.List.{List, _∷_, List·Memᴰ, List·Memᴰ·cases-cons}
+use Prim.Native.Nat.{ℕ, zero, suc, _+_, _≤_, _<_}
 use native.Mathlib.Omega.{arith}
 use native.Mathlib.Decide.{ℕ-discrete}
-use borrow.Author.Tests.{eq-eqb, ne-eqb, eqb-true, eqb-false, leb-true, le-leb, lt-leb, ltb-true, ltb-false, lt-ltb, le-ltb, not-true, not-false}
-use lib.ListN.{length, getD, set, List·getD-map, length-map, length-set}
+use borrow.Author.Tests.{ne-eqb, eqb-false, lt-leb, ltb-true, lt-ltb, not-true, leb-false}
+use lib.ListN.{length, set, length-set}
 use lib.Seq.{getD-set-same, getD-set-other}
 use lib.Dec.{leb, ltb, eqb}
-use Rattle.protocol.specs.Bytes.{if, same}
-use Rattle.protocol.specs.Tickets.{ticketText, iouText}
-use Rattle.protocol.specs.Records.{Rec, freeRec, nameOf}
-use Rattle.protocol.proofs.Laws.{both, same-eq, same-refl}
+use Rattle.protocol.specs.Bytes.{if}
+use Rattle.protocol.specs.Records.{Rec, nameOf}
+use Rattle.protocol.proofs.Laws.{both}
 use Rattle.account.specs.History.{Text}
-use Rattle.account.specs.Notebook.{Fate, held, expired, Line, Notebook, isHeld, close, closeLine, closeAll, enter}
-use Rattle.account.proofs.Base.{Case, is, isnt, case, clash, untrue, when, sum, sum-set, name-serial}
-use Rattle.account.proofs.Sim.{Slot, noLine, noSlot, on, alive, lives, weight, weigh, heft, total, Above, Up, upOf, deep, Under, Placed, login, session, below, Good, Before, Sim, good-move, Turn, stays, goes, never, through, sim-through}
+use Rattle.account.specs.Notebook.{Fate, expired, Line, Notebook, isHeld, close, closeLine, closeAll, raise, raiseLine, enter}
+use Rattle.account.proofs.Base.{Case, is, isnt, case, clash, sum-set}
+use Rattle.account.proofs.Sim.{Slot, noSlot, on, alive, lives, weight, weigh, heft, total, Up, upOf, Under, Placed, login, session, below, Good, Before, Sim, good-move, Turn, stays, goes, never, through, sim-through}
 
 -- what lives is not free and not expired, and the other way
 pub alive-kind : (c : ℕ) (r : Rec) → alive c r ≡ true → 1 ≤ r .kind
@@ -80,6 +79,21 @@ pub close-ref : (F : Fate) (q : Line → Bool) (e : Line) → closeLine F q e .r
 close-ref F q e = go (isHeld (e .fate) && q e)
   where
     go : (b : Bool) → if b (close F e) e .ref ≡ e .ref
+    go true = refl
+    go false = refl
+
+-- nor does raising
+pub raise-name : (q : Line → Bool) (e : Line) → raiseLine q e .name ≡ e .name
+raise-name q e = go (isHeld (e .fate) && q e)
+  where
+    go : (b : Bool) → if b (raise e) e .name ≡ e .name
+    go true = refl
+    go false = refl
+
+pub raise-ref : (q : Line → Bool) (e : Line) → raiseLine q e .ref ≡ e .ref
+raise-ref q e = go (isHeld (e .fate) && q e)
+  where
+    go : (b : Bool) → if b (raise e) e .ref ≡ e .ref
     go true = refl
     go false = refl
 
@@ -276,7 +290,7 @@ module _ (L : Notebook) (A : List Slot) (n : ℕ) (S : Sim L A n) (d : ℕ) (le 
         where
           late : Case (leb (on A i .r .expiry) d) → leb (on A i .r .expiry) d ≡ true
           late (is z) = z
-          late (isnt z) = absurd (clash (alive-is d (on A i .r) (alive-kind (L .clock) (on A i .r) l) (borrow.Author.Tests.leb-false (on A i .r .expiry) d z)) m)
+          late (isnt z) = absurd (clash (alive-is d (on A i .r) (alive-kind (L .clock) (on A i .r) l) (leb-false (on A i .r .expiry) d z)) m)
       go (isnt l) (is m) = absurd (clash (lived i m) l)
       go (isnt l) (isnt m) = never l m
 

@@ -1,34 +1,32 @@
 -- One thing said beside one edit of the table: each keeps the table at the trail. Assumes nothing.
-use mathlib.Core.Path.{_≡_, refl, sym, ap, ap₂, _∙_, subst}
-use mathlib.Core.Logic.{_≢_}
-use mathlib.Core.Bool.{Bool, true, false, not, _&&_, _||_}
-use mathlib.Core.List.{List, [], _∷_, _++_, map}
-use Prim.Native.Nat.{ℕ, zero, suc, _+_, _≤_, _<_, min, max}
+use mathlib.Core.Path.{_≡_, refl, ap, _∙_}
+use mathlib.Core.Bool.{Bool, true, false, not}
+use mathlib.Core.List.{List, [], _∷_}
+use Prim.Native.Nat.{ℕ, zero, suc, _+_, _≤_, _<_}
 use native.Mathlib.Omega.{arith}
-use borrow.Author.Tests.{eq-eqb, ne-eqb, eqb-true, eqb-false}
-use lib.ListN.{length, getD, set, List·getD-map}
+use borrow.Author.Tests.{eqb-true}
+use lib.ListN.{getD, set, List·getD-map}
 use lib.Dec.{eqb}
-use Rattle.protocol.specs.Bytes.{if, ascii, same}
-use Rattle.protocol.specs.Tickets.{iouText, iouFrom, aLogin, aSession, aService, aProxy, aWaiting, aGrant, lifetime}
+use Rattle.protocol.specs.Bytes.{if, ascii}
+use Rattle.protocol.specs.Tickets.{iouText, iouFrom, aLogin, aSession, aService, aProxy, aWaiting, aGrant}
 use Rattle.protocol.specs.Records.{Rec, freeRec, nameOf}
-use Rattle.protocol.specs.Table.{Table, tableOf, recAt, putAt}
+use Rattle.protocol.specs.Table.{Table, recAt, putAt}
 use Rattle.protocol.specs.Answers.{successText}
-use Rattle.protocol.specs.Steps.{tick, put, remove, endSession, isNamed, slotNamed, sessionOf, ticketSlot, waitingSlot, slotFor, newRec, add, chainOf, proxyParent, granted, isPlain, takesProxies}
+use Rattle.protocol.specs.Steps.{tick, put, remove, endSession, isNamed, slotNamed, sessionOf, ticketSlot, waitingSlot, newRec, add, chainOf, proxyParent, granted, isPlain, takesProxies}
 use Rattle.protocol.specs.declared.Validator.{Validator}
-use Rattle.protocol.proofs.Laws.{both, same-eq, same-refl}
 use Rattle.protocol.proofs.Added.{Room}
 use Rattle.account.specs.History.{Text}
 use Rattle.account.specs.Reading.{Item, Passed, Showed, Spent, Ended, Opened, Issued, Proxied, Burnt, Welcomed, CalledBack, Settled}
-use Rattle.account.specs.Notebook.{Fate, burnt, accepted, spent, ended, Line, Notebook, isHeld, closeAll, enter, Look, found, nothing, look, isLine, isTicket, isTicketLine, isWaitingLine, enterUnder, lineUnder, note, notebook}
-use Rattle.account.specs.Truth.{isFound, loginLive, spentLive}
+use Rattle.account.specs.Notebook.{Fate, burnt, accepted, spent, Notebook, isHeld, closeAll, isLine, isTicket, isTicketLine, isWaitingLine, note, notebook}
+use Rattle.account.specs.Truth.{loginLive, spentLive}
 use Rattle.account.proofs.Base.{Case, is, isnt, case, clash}
-use Rattle.account.proofs.Sim.{Slot, noSlot, on, alive, lives, Above, Up, upOf, deep, Under, Good, Sim}
-use Rattle.account.proofs.Edits.{alive-kind, alive-time, under-of, home-lives}
-use Rattle.account.proofs.Look.{recOf, Tied, rec-on, Hit, Miss, isTicketNamed, isWaitingOf, hit-named, hit-slot, miss-named, hit-ticket, miss-ticket, hit-waiting, ticket-kind, waiting-kind, named-kind, named-name}
+use Rattle.account.proofs.Sim.{Slot, noSlot, on, Above, Up, upOf, Under, Sim}
+use Rattle.account.proofs.Edits.{alive-time, under-of, home-lives}
+use Rattle.account.proofs.Look.{recOf, Tied, rec-on, Hit, isTicketNamed, isWaitingOf, hit-named, hit-slot, miss-named, hit-ticket, miss-ticket, hit-waiting, ticket-kind, waiting-kind, named-kind}
 use Rattle.account.proofs.Tables.{put-slots, tied-none, tied-remove, tied-removed, some-slot, spent-good, tied-pass}
 use Rattle.account.proofs.Sessions.{end-some, end-none, tied-raise}
-use Rattle.account.proofs.Making.{New, NewRef, new-text, new-ref, tied-login, tied-session, Source, session-source, under-source, tied-under}
-use Rattle.account.proofs.Reached.{OwesIssue, OwesOpen, RightLine, OwesWelcome, OwesCallback, OwesSettle, Owes, AllOwes, Reached}
+use Rattle.account.proofs.Making.{new-text, new-ref, tied-login, tied-session, session-source, under-source, tied-under}
+use Rattle.account.proofs.Reached.{RightLine, OwesSettle, Reached}
 use Rattle.account.proofs.Chains.{user-ok, chain-ok, depth-ok, ticket-up, waiting-up}
 
 -- a table as it was, put together again
@@ -198,28 +196,17 @@ module _ (start : ℕ) (h : List Item) (t : Table) (R : Reached start h t) where
     reach-burn = record { tied = removed burnt refl .0; paid = (tt, R .paid) }
 
     -- accepted: the line's text, mark and kind are the record's
-    pub right-line : (v : Validator) (renew : Bool) (service : Text) → (eqb (recAt k (t .slots) .kind) aProxy && not (takesProxies v)) ≡ false
-        → (renew && eqb (recAt k (t .slots) .mark) 0) ≡ false → same (recAt k (t .slots) .text) service ≡ true → RightLine v renew service (a .e)
-    right-line v renew service p q s =
+    pub right-line : (v : Validator) (renew : Bool) (service : Text) → (eqb (recAt k (t .slots) .kind) aProxy ≡ true → takesProxies v ≡ true)
+        → (renew ≡ true → eqb (recAt k (t .slots) .mark) 0 ≡ false) → recAt k (t .slots) .text ≡ service → RightLine v renew service (a .e)
+    right-line v renew service taken marked meant =
         let g = R .tied .sim .good k (hits .live) in
         let r = rec-on L t (R .tied) k in
-        let p′ : (eqb (a .r .kind) aProxy && not (takesProxies v)) ≡ false = rw r at p in
-        let q′ : (renew && eqb (a .r .mark) 0) ≡ false = rw r at q in
-        let s′ : same (a .r .text) service ≡ true = rw r at s in
+        let m : renew ≡ true → eqb (a .r .mark) 0 ≡ false = rw r at marked in
         record {
-          text-is = g .text-eq ∙ same-eq (a .r .text) service s′;
-          primary = λ x. g .mark-eq ∙ marks renew (eqb (a .r .mark) 0) x q′;
-          allowed = λ x. takes (eqb (a .r .kind) aProxy) (takesProxies v) (rw (g .kind-eq) at x) p′;
+          text-is = g .text-eq ∙ (rw r at meant);
+          primary = λ x. g .mark-eq ∙ ap not (m x);
+          allowed = λ x. (rw r at taken) (rw (g .kind-eq) at x);
         }
-      where
-        marks : (a b : Bool) → a ≡ true → (a && b) ≡ false → not b ≡ true
-        marks true b x z = rw z
-        marks false b x z = absurd (clash x refl)
-
-        takes : (a b : Bool) → a ≡ true → (a && not b) ≡ false → b ≡ true
-        takes true true x z = refl
-        takes true false x z = absurd (clash refl z)
-        takes false b x z = absurd (clash x refl)
 
     -- the records of the table without it
     rec-after : (j : ℕ) → recAt j (putAt k freeRec (t .slots)) ≡ on (set (R .tied .A) k noSlot) j .r
@@ -248,13 +235,13 @@ module _ (start : ℕ) (h : List Item) (t : Table) (R : Reached start h t) where
         (proxyParent (a .r)) (ticket-up (a .r) is-ticket))
 
     pub reach-welcome : (v : Validator) (renew : Bool) (service said : Text) → RightLine v renew service (a .e)
-        → said ≡ if (isPlain v) (ascii "yes\n") (successText (recAt (recAt k (t .slots) .session) (putAt k freeRec (t .slots)) .text) [] (chainOf (proxyParent (recAt k (t .slots))) (putAt k freeRec (t .slots))))
+        → said ≡ if (isPlain v) (ascii "yes\n") (successText (a .e .user) [] (chainOf (proxyParent (recAt k (t .slots))) (putAt k freeRec (t .slots))))
         → Reached start (Welcomed v renew ticket service said ∷ h) (remove (ticketSlot ticket t) t)
     unfolding notebook note
     reach-welcome v renew service said right bytes =
         record {
           tied = removed accepted refl .0;
-          paid = (record { ticket-line = a .e; line = hits .line; right = right; bytes = rw (welcome-is, chain-told) at bytes }, R .paid);
+          paid = (record { ticket-line = a .e; line = hits .line; right = right; bytes = rw chain-told at bytes }, R .paid);
         }
 
     abbrev t′ : Table

@@ -1,30 +1,29 @@
 -- login by GET: what its answer says is what it did to the table. Assumes nothing.
-use mathlib.Core.Path.{_≡_, refl, sym, ap, _∙_}
-use mathlib.Core.Bool.{Bool, true, false, not, _&&_, _||_}
-use mathlib.Core.List.{List, [], _∷_, _++_}
-use Prim.Native.Nat.{ℕ, zero, suc, _+_, _≤_, _<_}
+use mathlib.Core.Path.{_≡_, refl}
+use mathlib.Core.Bool.{true, false, not, _&&_}
+use mathlib.Core.List.{List, [], _∷_}
+use Prim.Native.Nat.{ℕ, _≤_}
 use native.Mathlib.Omega.{arith}
 use borrow.Author.Tests.{ltb-true, ne-eqb}
 use lib.Dec.{eqb, ltb}
-use Rattle.protocol.specs.Bytes.{if, isEmpty, same, decimal, ascii}
+use Rattle.protocol.specs.Bytes.{isEmpty, decimal}
 use Rattle.protocol.specs.Tickets.{aLogin, aSession, aService}
 use Rattle.protocol.specs.Records.{Rec, nameOf}
-use Rattle.protocol.specs.Table.{Table, recAt, countKind, loginCap}
+use Rattle.protocol.specs.Table.{Table, countKind, loginCap}
 use Rattle.protocol.specs.Register.{decodeRegister}
 use Rattle.protocol.specs.Request.{malformed, loginNames, fromQuery, present}
-use Rattle.protocol.specs.Answers.{Reply, ErrorPage, SignedIn, FormPage, RedirectTo, replyText, replyAnswer, pageHead, formText, redirectText}
-use Rattle.protocol.specs.Steps.{Brought, Step, step, sessionOf, slotNamed, roomFor, newRec, add, formWith, formStep, ticketWith, ticketStep, signedOn, loginPage, unknownService, loginGet}
-use Rattle.protocol.specs.declared.Path.{Path}
+use Rattle.protocol.specs.Answers.{ErrorPage, SignedIn, FormPage, RedirectTo, replyText, replyAnswer, pageHead}
+use Rattle.protocol.specs.Steps.{Brought, Step, step, sessionOf, roomFor, newRec, formWith, formStep, ticketWith, ticketStep, signedOn, loginPage, unknownService, loginGet}
 use Rattle.protocol.specs.declared.Path.the-variants as path
 use Rattle.protocol.proofs.Laws.{both}
 use Rattle.protocol.proofs.Added.{Room, room-one}
 use Rattle.account.specs.History.{Text, Asked}
 use Rattle.account.specs.Reading.{Item, Showed, Issued, isForm, readLoginGet}
-use Rattle.account.proofs.Base.{Case, is, isnt, case, clash, fork}
+use Rattle.account.proofs.Base.{clash, fork}
 use Rattle.account.proofs.Reached.{Reached}
 use Rattle.account.proofs.Items.{reach-show, reach-issue}
 use Rattle.account.proofs.Texts.{letters, name-letters, name-some, ticket-read, form-200, page-400, page-403, page-503, page-in}
-use Rattle.account.proofs.Counts.{Ok, ok-by, slot-named, issuesIn, acceptsIn, sumIn}
+use Rattle.account.proofs.Counts.{Ok, ok-by, slot-named}
 
 -- what a request brings, from the call
 abbrev pub bring : Asked → Brought

@@ -1,24 +1,24 @@
 -- Searches: what the table's search finds, the notebook's search finds. Assumes nothing.
-use mathlib.Core.Path.{_≡_, refl, sym, ap, ap₂, _∙_, subst}
-use mathlib.Core.Logic.{_⊎_, inl, inr, _≢_}
-use mathlib.Core.Bool.{Bool, true, false, not, _&&_, _||_}
-use mathlib.Core.List.{List, [], _∷_, _++_, map, List·Memᴰ, List·Memᴰ·head, List·Memᴰ·tail}
-use Prim.Native.Nat.{ℕ, zero, suc, _+_, _%_, _≤_, _<_, min, max}
+use mathlib.Core.Path.{_≡_, refl, sym, ap, ap₂, _∙_}
+use mathlib.Core.Logic.{_≢_}
+use mathlib.Core.Bool.{Bool, true, false, _&&_, _||_}
+use mathlib.Core.List.{List, [], _∷_, map, List·Memᴰ, List·Memᴰ·head, List·Memᴰ·tail}
+use Prim.Native.Nat.{ℕ, zero, suc, _+_, _%_, _≤_, _<_}
 use native.Mathlib.Omega.{arith}
-use borrow.Author.Tests.{eq-eqb, ne-eqb, eqb-true, eqb-false, lt-ltb}
-use lib.ListN.{length, getD, set, List·getD-map, length-map, length-set}
-use lib.Dec.{leb, ltb, eqb}
-use Rattle.protocol.specs.Bytes.{if, same}
-use Rattle.protocol.specs.Tickets.{ticketText, iouText, aService, aProxy, aWaiting}
+use borrow.Author.Tests.{eqb-true, lt-ltb, ltb-true}
+use lib.ListN.{length, getD, List·getD-map, length-map}
+use lib.Dec.{ltb, eqb}
+use Rattle.protocol.specs.Bytes.{same}
+use Rattle.protocol.specs.Tickets.{aService, aProxy, aWaiting}
 use Rattle.protocol.specs.Records.{Rec, freeRec, nameOf, live}
 use Rattle.protocol.specs.Table.{Table, recAt, slotFrom, slotWhere}
 use Rattle.protocol.specs.Steps.{isNamed, slotNamed, ticketSlot, waitingSlot}
-use Rattle.protocol.proofs.Laws.{both, same-eq, same-refl}
-use Rattle.protocol.proofs.Added.{Chosen, slot-chosen}
+use Rattle.protocol.proofs.Laws.{both, same-eq}
+use Rattle.protocol.proofs.Added.{slot-chosen}
 use Rattle.account.specs.History.{Text}
-use Rattle.account.specs.Notebook.{Fate, held, Line, Notebook, isHeld, Look, found, nothing, lookHere, look, isLine, isTicket, isTicketLine, isWaitingLine}
-use Rattle.account.proofs.Base.{Case, is, isnt, case, clash, untrue, and-yes, or-left, or-right, when, sum, name-serial}
-use Rattle.account.proofs.Sim.{Slot, noLine, noSlot, on, alive, lives, weight, weigh, heft, total, Good, Before, Sim}
+use Rattle.account.specs.Notebook.{Line, Notebook, isHeld, found, nothing, look, isLine, isTicket, isTicketLine, isWaitingLine}
+use Rattle.account.proofs.Base.{Case, is, isnt, case, clash, untrue, and-yes, or-left, or-right, when, name-serial}
+use Rattle.account.proofs.Sim.{Slot, noSlot, on, alive, lives, weight, weigh, heft, total, Sim}
 use Rattle.account.proofs.Edits.{alive-kind, alive-time, alive-is}
 
 abbrev pub recOf : Slot → Rec
@@ -210,7 +210,7 @@ module _ (L : Notebook) (t : Table) (w : Tied L t) where
       let p = both (eqb (r .kind) kind && live (L .clock) r) (same (nameOf r) text) e in
       let q = both (eqb (r .kind) kind) (live (L .clock) r) (p .0) in
       let x = eqb-true (r .kind) kind (q .0) in
-      alive-is (L .clock) r (omega arith) (borrow.Author.Tests.ltb-true (L .clock) (r .expiry) (q .1))
+      alive-is (L .clock) r (omega arith) (ltb-true (L .clock) (r .expiry) (q .1))
 
   named-only : (kind : ℕ) (text : Text) (i j : ℕ) → lives (L .clock) (w .A) i ≡ true → lives (L .clock) (w .A) j ≡ true
       → isLine kind text (on (w .A) i .e) ≡ true → isLine kind text (on (w .A) j .e) ≡ true → on (w .A) i .r .serial ≡ on (w .A) j .r .serial
@@ -281,7 +281,7 @@ module _ (L : Notebook) (t : Table) (w : Tied L t) where
       let p = both (eqb (r .kind) aWaiting && live (L .clock) r) (eqb (r .serial) serial) e in
       let q = both (eqb (r .kind) aWaiting) (live (L .clock) r) (p .0) in
       let x = eqb-true (r .kind) 5 (q .0) in
-      alive-is (L .clock) r (omega arith) (borrow.Author.Tests.ltb-true (L .clock) (r .expiry) (q .1))
+      alive-is (L .clock) r (omega arith) (ltb-true (L .clock) (r .expiry) (q .1))
 
   waiting-ref : (serial : ℕ) (i : ℕ) → lives (L .clock) (w .A) i ≡ true → isWaitingLine serial (on (w .A) i .e) ≡ true → on (w .A) i .r .serial ≡ serial
   waiting-ref serial i l e =

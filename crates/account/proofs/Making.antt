@@ -1,26 +1,24 @@
 -- New records: the line that the notebook enters stands for the record that the table adds. Assumes nothing.
-use mathlib.Core.Path.{_≡_, refl, sym, ap, ap₂, _∙_, subst}
-use mathlib.Core.Logic.{_⊎_, inl, inr, _≢_}
-use mathlib.Core.Bool.{Bool, true, false, not, _&&_, _||_}
-use mathlib.Core.List.{List, [], _∷_, _++_, map, List·Memᴰ}
-use Prim.Native.Nat.{ℕ, zero, suc, _+_, _%_, _≤_, _<_, min, max}
+use mathlib.Core.Path.{_≡_, refl, sym, _∙_}
+use mathlib.Core.Logic.{_≢_}
+use mathlib.Core.Bool.{Bool, true, false, not}
+use mathlib.Core.List.{List, [], List·Memᴰ}
+use Prim.Native.Nat.{ℕ, suc, _+_, _≤_, min}
 use native.Mathlib.Omega.{arith}
-use borrow.Author.Tests.{eq-eqb, ne-eqb, eqb-true, eqb-false}
-use lib.ListN.{length, getD, set}
-use lib.Dec.{leb, ltb, eqb}
-use Rattle.protocol.specs.Bytes.{if, same}
-use Rattle.protocol.specs.Tickets.{ticketText, iouText, iouFrom, lifetime, aLogin, aSession}
-use Rattle.protocol.specs.Records.{Rec, freeRec, nameOf, live}
-use Rattle.protocol.specs.Table.{Table, tableOf, recAt}
-use Rattle.protocol.specs.Steps.{slotFor, expiryFor, newRec, add}
-use Rattle.protocol.proofs.Laws.{both, same-eq, same-refl}
+use borrow.Author.Tests.{ne-eqb}
+use lib.Dec.{eqb}
+use Rattle.protocol.specs.Bytes.{if}
+use Rattle.protocol.specs.Tickets.{iouText, iouFrom, lifetime, aLogin, aSession}
+use Rattle.protocol.specs.Records.{Rec, nameOf}
+use Rattle.protocol.specs.Table.{Table}
+use Rattle.protocol.specs.Steps.{expiryFor, newRec, add}
 use Rattle.protocol.proofs.Added.{Room}
 use Rattle.account.specs.History.{Text}
-use Rattle.account.specs.Notebook.{held, Line, Notebook, isHeld, enter, loginLine, sessionLine, lineUnder}
-use Rattle.account.proofs.Base.{Case, is, isnt, case, clash, name-serial}
-use Rattle.account.proofs.Sim.{Slot, noLine, noSlot, on, alive, lives, Above, Up, upOf, deep, Under, Placed, login, session, below, Good, Before, Sim}
-use Rattle.account.proofs.Edits.{alive-kind, alive-time, alive-is, under-of}
-use Rattle.account.proofs.Look.{recOf, Tied, live-inside, rec-on, size-is, zero-dead}
+use Rattle.account.specs.Notebook.{Line, Notebook, enter, loginLine, sessionLine, lineUnder}
+use Rattle.account.proofs.Base.{clash, name-serial}
+use Rattle.account.proofs.Sim.{Slot, on, lives, Up, deep, Under, Placed, login, session, below, Good}
+use Rattle.account.proofs.Edits.{alive-time, alive-is}
+use Rattle.account.proofs.Look.{Tied, rec-on, zero-dead}
 use Rattle.account.proofs.Tables.{serial-is, tied-add}
 
 -- no line of the notebook has this text, or this number

@@ -1,16 +1,16 @@
 -- The link between the notebook and the table: the table's slots, slot 0 first, with the notebook's line beside each. Assumes nothing.
-use mathlib.Core.Path.{_≡_, refl, sym, ap, ap₂, _∙_, subst}
-use mathlib.Core.Bool.{Bool, true, false, not, _&&_, _||_}
-use mathlib.Core.List.{List, [], _∷_, _++_, map, List·Memᴰ, List·Memᴰ·cases-cons, List·Memᴰ·not-nil, Memᴰ·of-map}
-use Prim.Native.Nat.{ℕ, zero, suc, _+_, _≤_, _<_, min, max}
+use mathlib.Core.Path.{_≡_, refl, sym, ap, ap₂, _∙_}
+use mathlib.Core.Bool.{Bool, true, false, not, _&&_}
+use mathlib.Core.List.{List, [], _∷_, map, List·Memᴰ, Memᴰ·of-map}
+use Prim.Native.Nat.{ℕ, zero, suc, _+_, _≤_, _<_}
 use native.Mathlib.Omega.{arith}
-use lib.ListN.{length, getD, set, List·getD-map, length-map, length-set}
-use lib.Dec.{leb, ltb, eqb}
-use Rattle.protocol.specs.Bytes.{if, same}
+use lib.ListN.{length, getD}
+use lib.Dec.{ltb, eqb}
+use Rattle.protocol.specs.Bytes.{if}
 use Rattle.protocol.specs.Tickets.{ticketText, iouText}
 use Rattle.protocol.specs.Records.{Rec, freeRec, nameOf}
 use Rattle.account.specs.History.{Text}
-use Rattle.account.specs.Notebook.{Fate, held, Line, Notebook, isHeld, close, closeLine, closeAll}
+use Rattle.account.specs.Notebook.{held, Line, Notebook, isHeld}
 use Rattle.account.proofs.Base.{Case, is, isnt, case, clash, when, sum}
 
 pub record Slot : Type 0 where

@@ -1,28 +1,24 @@
 -- The edits of a table keep it tied to the notebook. Assumes nothing.
-use mathlib.Core.Path.{_≡_, refl, sym, ap, ap₂, _∙_, subst}
-use mathlib.Core.Logic.{_⊎_, inl, inr, _≢_}
-use mathlib.Core.Bool.{Bool, true, false, not, _&&_, _||_}
-use mathlib.Core.List.{List, [], _∷_, _++_, map, List·Memᴰ}
-use Prim.Native.Nat.{ℕ, zero, suc, _+_, _%_, _≤_, _<_, min, max}
+use mathlib.Core.Path.{_≡_, refl, sym, ap, ap₂, _∙_}
+use mathlib.Core.Logic.{_≢_}
+use mathlib.Core.Bool.{Bool, true, false, not}
+use mathlib.Core.List.{List, [], _∷_, map}
+use Prim.Native.Nat.{ℕ, zero, suc, _+_, _%_, _≤_, _<_, max}
 use native.Mathlib.Omega.{arith}
 use native.Mathlib.Decide.{ℕ-discrete}
-use borrow.Author.Tests.{eq-eqb, ne-eqb, eqb-true, eqb-false, lt-ltb, ltb-true, ltb-false, le-ltb, not-true, not-false}
-use lib.ListN.{length, getD, set, List·getD-map, length-map, length-set}
+use borrow.Author.Tests.{eq-eqb, ne-eqb, eqb-true, eqb-false, lt-ltb, not-true, not-false}
+use lib.ListN.{getD, set, List·getD-map, length-map, length-set}
 use lib.Seq.{getD-set-same, getD-set-other}
-use lib.Dec.{leb, ltb, eqb}
-use Rattle.protocol.specs.Bytes.{if, same, zeros}
-use Rattle.protocol.specs.Tickets.{ticketText, iouText, lifetime, aSession, aWaiting, aGrant}
-use Rattle.protocol.specs.Records.{Rec, freeRec, nameOf, live}
-use Rattle.protocol.specs.Table.{Table, tableOf, recAt, putAt}
-use Rattle.protocol.specs.Steps.{clearRec, tick, put, remove, endRec, endSession, isNamed, slotNamed, slotFor, add, granted}
-use Rattle.protocol.proofs.Laws.{both, same-eq, same-refl}
+use lib.Dec.{ltb, eqb}
+use Rattle.protocol.specs.Records.{Rec, freeRec}
+use Rattle.protocol.specs.Table.{Table, putAt}
+use Rattle.protocol.specs.Steps.{clearRec, tick, remove, slotFor, add}
 use Rattle.protocol.proofs.Added.{Room}
-use Rattle.account.specs.History.{Text}
-use Rattle.account.specs.Notebook.{Fate, held, ended, expired, Line, Notebook, isHeld, close, closeLine, closeAll, enter, raise, raiseLine, raiseAll, pass, isLine, isTicket, isWaitingLine, ofSession}
-use Rattle.account.proofs.Base.{Case, is, isnt, case, clash, one-test, untrue, and-not, or-left, or-right, when, sum, name-serial}
-use Rattle.account.proofs.Sim.{Slot, noLine, noSlot, on, alive, lives, weight, weigh, heft, total, Above, Up, upOf, deep, Under, Placed, login, session, below, Good, Before, Sim, good-move, through}
-use Rattle.account.proofs.Edits.{alive-kind, alive-time, alive-is, free-dead, under-of, home-lives, up-lives, parent-lives, up-grants, close-name, sim-drop, sim-put, sim-change, sim-time}
-use Rattle.account.proofs.Look.{recOf, Tied, live-inside, rec-on, size-is, zero-dead, same-name, Hit, Miss}
+use Rattle.account.specs.Notebook.{Fate, expired, Line, Notebook, isHeld, closeLine, closeAll, enter, pass}
+use Rattle.account.proofs.Base.{if-same, clash, and-not}
+use Rattle.account.proofs.Sim.{Slot, noLine, noSlot, on, alive, lives, upOf, Under, session, Good, Sim, good-move}
+use Rattle.account.proofs.Edits.{alive-time, free-dead, under-of, home-lives, parent-lives, up-grants, sim-drop, sim-put, sim-time}
+use Rattle.account.proofs.Look.{recOf, Tied, live-inside, rec-on, size-is, zero-dead, Miss}
 
 pub map-set : (A : List Slot) (k : ℕ) (a : Slot) → set (map recOf A) k (a .r) ≡ map recOf (set A k a)
 map-set [] k a = refl
@@ -147,14 +143,10 @@ tied-add L t w m a la sa ra ga =
 clearS : ℕ → Slot → Slot
 clearS c a = record { r = clearRec c (a .r); e = a .e }
 
-if-same : (b : Bool) → if b freeRec freeRec ≡ freeRec
-if-same true = refl
-if-same false = refl
-
 on-clear : (c : ℕ) (A : List Slot) (i : ℕ) → on (map (clearS c) A) i ≡ clearS c (on A i)
 unfolding clearS
 on-clear c A i =
-    let d : clearS c noSlot ≡ noSlot = ap (λ (b : Rec). record { r = b; e = noLine }) (if-same (ltb c 0)) in
+    let d : clearS c noSlot ≡ noSlot = ap (λ (b : Rec). record { r = b; e = noLine }) (if-same (ltb c 0) freeRec) in
     ap (λ (d : Slot). getD (map (clearS c) A) i d) (sym d) ∙ List·getD-map (clearS c) A i noSlot
 
 map-clear : (c : ℕ) (A : List Slot) → map (clearRec c) (map recOf A) ≡ map recOf (map (clearS c) A)
@@ -164,7 +156,7 @@ map-clear c (a ∷ A) = ap (λ (l : List Rec). clearRec c (a .r) ∷ l) (map-cle
 
 clear-slots : (c : ℕ) (slots : List Rec) (A : List Slot) → freeRec ∷ slots ≡ map recOf A → freeRec ∷ map (clearRec c) slots ≡ map recOf (map (clearS c) A)
 clear-slots c slots A e =
-    ap (λ (r : Rec). r ∷ map (clearRec c) slots) (sym (if-same (ltb c 0)))
+    ap (λ (r : Rec). r ∷ map (clearRec c) slots) (sym (if-same (ltb c 0) freeRec))
     ∙ ap (map (clearRec c)) e
     ∙ map-clear c A
 

@@ -1,22 +1,22 @@
 -- What is read at the known places of an answer's bytes is what was written there. Assumes nothing.
-use mathlib.Core.Path.{_≡_, refl, sym, ap, ap₂, _∙_, subst}
-use mathlib.Core.Bool.{Bool, true, false, not, _&&_, _||_}
-use mathlib.Core.List.{List, [], _∷_, _++_, map}
-use Prim.Native.Nat.{ℕ, zero, suc, _+_, _-_, _*_, _/_, _%_, _^_, _≤_, _<_}
+use mathlib.Core.Path.{_≡_, refl, ap, _∙_}
+use mathlib.Core.Bool.{Bool, true, false, _&&_, _||_}
+use mathlib.Core.List.{List, [], _∷_, _++_}
+use Prim.Native.Nat.{ℕ, zero, suc, _+_, _-_, _/_, _%_, _≤_, _<_}
 use native.Mathlib.Omega.{arith}
-use borrow.Author.Tests.{ltb-true, ltb-false, le-leb, lt-leb, leb-true, leb-false, eqb-true, ne-eqb}
+use borrow.Author.Tests.{ltb-true, ltb-false, le-leb, leb-true, ne-eqb, eq-eqb}
 use lib.Dec.{eqb, leb, ltb}
 use lib.ListN.{length, take, drop}
 use lib.Seq.{take-append-seam, drop-append-add}
-use Rattle.protocol.specs.Bytes.{if, ascii, isEmpty, same, part, within, allWithin, holds, upTo, cutAt, spliced, digits, decimal, hex, hexDigit}
-use Rattle.protocol.specs.Tickets.{ticketText, prefix, secretLength, iouText}
+use Rattle.protocol.specs.Bytes.{if, ascii, isEmpty, same, within, allWithin, holds, upTo, spliced, digits, decimal, hex, hexDigit}
+use Rattle.protocol.specs.Tickets.{ticketText, prefix, secretLength}
 use Rattle.protocol.specs.Records.{Rec, nameOf}
 use Rattle.protocol.specs.Answers.{escaped, escapedByte, extended, pageHead, formText, lineIf, inResponse, proxySuccessText, redirectText, callbackText}
 use Rattle.protocol.proofs.Laws.{both}
 use Rattle.protocol.proofs.Names.{digits-within}
 use Rattle.account.specs.History.{Text}
-use Rattle.account.specs.Reading.{ticketIn, formStart, isForm, loginIn, pgtIn, iouIn, proxyStart, proxyIn}
-use Rattle.account.proofs.Base.{Case, is, isnt, case, clash, or-left, or-right}
+use Rattle.account.specs.Reading.{ticketIn, isForm, loginIn, pgtIn, iouIn, proxyIn}
+use Rattle.account.proofs.Base.{clash, or-right}
 
 pub append-assoc {ℓ} : {A : Type ℓ} (a b c : List A) → (a ++ b) ++ c ≡ a ++ (b ++ c)
 append-assoc [] b c = refl
@@ -93,7 +93,7 @@ escaped-letters (b ∷ s) h =
 
 upTo-letters : (x : ℕ) (s r : List ℕ) → letter x ≡ false → letters s ≡ true → upTo x (s ++ (x ∷ r)) ≡ s
 unfolding letters upTo
-upTo-letters x [] r q h = rw (borrow.Author.Tests.eq-eqb x x refl)
+upTo-letters x [] r q h = rw (eq-eqb x x refl)
 upTo-letters x (b ∷ s) r q h =
     let w = both (letter b) (letters s) h in
     rw (unlike b x (w .0) q) (ap (λ (l : List ℕ). b ∷ l) (upTo-letters x s r q (w .1)))

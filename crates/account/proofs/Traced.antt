@@ -1,24 +1,22 @@
 -- The notebook's lines tell what the history itself tells: service, user, chain and credentials of a ticket, and of a grant. Assumes nothing.
-use mathlib.Core.Path.{_≡_, refl, sym, ap, ap₂, _∙_, subst}
+use mathlib.Core.Path.{_≡_, refl, sym, ap, ap₂}
 use mathlib.Core.Logic.{_⊎_, inl, inr, _≢_}
-use mathlib.Core.Bool.{Bool, true, false, not, _&&_, _||_}
-use mathlib.Core.List.{List, [], _∷_, _++_, map, List·Memᴰ, List·Memᴰ·cases-cons, List·Memᴰ·not-nil, Memᴰ·of-map}
-use Prim.Native.Nat.{ℕ, zero, suc, _+_, min, max}
-use native.Mathlib.Omega.{arith}
+use mathlib.Core.Bool.{Bool, true, false, _&&_, _||_}
+use mathlib.Core.List.{List, [], _∷_, map, List·Memᴰ, List·Memᴰ·cases-cons, List·Memᴰ·not-nil, Memᴰ·of-map}
+use Prim.Native.Nat.{ℕ}
 use borrow.Author.Tests.{eqb-true, ne-eqb, eq-eqb}
-use lib.Dec.{eqb, leb}
+use lib.Dec.{eqb}
 use Rattle.protocol.specs.Bytes.{if, same}
-use Rattle.protocol.specs.Tickets.{aLogin, aSession, aService, aProxy, aWaiting, aGrant}
+use Rattle.protocol.specs.Tickets.{aSession, aService, aProxy, aWaiting, aGrant}
 use Rattle.protocol.specs.declared.Validator.{Validator}
 use Rattle.protocol.proofs.Laws.{both, same-eq, same-refl}
 use Rattle.account.specs.History.{Text}
 use Rattle.account.specs.Reading.{Item, Passed, Showed, Spent, Ended, Opened, Issued, Proxied, Burnt, Welcomed, CalledBack, Settled}
-use Rattle.account.specs.Notebook.{Fate, Line, Notebook, isHeld, close, closeLine, closeAll, raise, raiseLine, raiseAll, enter, pass, Look, found, nothing, look, isLine, isTicket, isTicketLine, isWaitingLine, loginLine, sessionLine, lineUnder, enterUnder, note, notebook}
-use Rattle.account.specs.Truth.{Origin, Granting, loginOrigin, grantOrigin, openerOf, spentLive, originOf, grantOf, calledOf}
+use Rattle.account.specs.Notebook.{Fate, Line, isHeld, close, closeLine, closeAll, raiseLine, raiseAll, enter, pass, found, look, isLine, isTicket, isTicketLine, isWaitingLine, loginLine, sessionLine, lineUnder, note, notebook}
+use Rattle.account.specs.Truth.{noIssue, issueIn, noMaking, makingIn, noOpening, openingIn, Origin, Granting, loginOrigin, grantOrigin, openerOf, spentLive, originOf, grantOf, calledOf}
 use Rattle.account.proofs.Base.{Case, is, isnt, case, clash, untrue}
 use Rattle.account.proofs.Look.{seen}
-use Rattle.account.proofs.Making.{New, NewRef}
-use Rattle.account.proofs.Reached.{OwesIssue, OwesOpen, OwesWelcome, OwesCallback, OwesSettle, Owes, AllOwes}
+use Rattle.account.proofs.Reached.{OwesIssue, OwesCallback, Owes, AllOwes}
 
 abbrev pub isPgt : ℕ → Bool
 isPgt kind = eqb kind aWaiting || eqb kind aGrant
@@ -80,8 +78,7 @@ enter-traced start h x book k all e m = go (List·Memᴰ·cases-cons m)
 
 -- nothing that names a ticket, a session or a grant
 module _ (start : ℕ) (older : List Item) (book : List Line) (all : AllTraced start older book) where
-  aged-quiet : (i : Item) → Rattle.account.specs.Truth.issueIn i ≡ Rattle.account.specs.Truth.Issue.none → Rattle.account.specs.Truth.makingIn i ≡ Rattle.account.specs.Truth.Making.none
-      → Rattle.account.specs.Truth.openingIn i ≡ Rattle.account.specs.Truth.Opening.none → AllTraced start (i ∷ older) book
+  aged-quiet : (i : Item) → issueIn i ≡ noIssue → makingIn i ≡ noMaking → openingIn i ≡ noOpening → AllTraced start (i ∷ older) book
   unfolding originOf openerOf calledOf
   aged-quiet i p q r e m =
       let k = all e m in

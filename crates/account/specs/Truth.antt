@@ -1,7 +1,7 @@
 -- Where a ticket comes from, told from the history alone, besides the notebook: its service, its user, its true chain, its credentials.
-use mathlib.Core.Bool.{Bool, true, false, _&&_, _||_, not}
+use mathlib.Core.Bool.{Bool, true, false, _&&_}
 use mathlib.Core.List.{List, [], _∷_}
-use Prim.Native.Nat.{ℕ, _+_}
+use Prim.Native.Nat.{ℕ}
 use lib.Dec.{eqb}
 use Rattle.protocol.specs.Bytes.{if, same}
 use Rattle.protocol.specs.Tickets.{aLogin}
@@ -11,80 +11,80 @@ use Rattle.account.specs.Notebook.{Notebook, Look, found, nothing, look,
 
 -- an item that issues a ticket: by a login, or by a grant
 pub data Issue : Type 0 where
-  none : Issue
+  noIssue : Issue
   byLogin : (cookie service ticket : Text) → (signed : Bool) → (lt : Text) → Issue
   byGrant : (pgt target ticket : Text) → Issue
 
 abbrev pub issueIn : Item → Issue
-issueIn (Passed time) = none
-issueIn (Showed lt) = none
-issueIn (Spent lt) = none
-issueIn (Ended cookie) = none
-issueIn (Opened cookie user signed lt) = none
+issueIn (Passed time) = noIssue
+issueIn (Showed lt) = noIssue
+issueIn (Spent lt) = noIssue
+issueIn (Ended cookie) = noIssue
+issueIn (Opened cookie user signed lt) = noIssue
 issueIn (Issued cookie service ticket signed lt) = byLogin cookie service ticket signed lt
 issueIn (Proxied pgt target ticket) = byGrant pgt target ticket
-issueIn (Burnt ticket) = none
-issueIn (Welcomed v renew ticket service said) = none
-issueIn (CalledBack v renew ticket service url pgt iou serial) = none
-issueIn (Settled serial outcome said) = none
+issueIn (Burnt ticket) = noIssue
+issueIn (Welcomed v renew ticket service said) = noIssue
+issueIn (CalledBack v renew ticket service url pgt iou serial) = noIssue
+issueIn (Settled serial outcome said) = noIssue
 
 -- an item that makes a grant: the ticket accepted in that call, pgtUrl, the grant's text, IOU and serial
 pub data Making : Type 0 where
-  none : Making
+  noMaking : Making
   making : (ticket url pgt iou : Text) → (serial : ℕ) → Making
 
 abbrev pub makingIn : Item → Making
-makingIn (Passed time) = none
-makingIn (Showed lt) = none
-makingIn (Spent lt) = none
-makingIn (Ended cookie) = none
-makingIn (Opened cookie user signed lt) = none
-makingIn (Issued cookie service ticket signed lt) = none
-makingIn (Proxied pgt target ticket) = none
-makingIn (Burnt ticket) = none
-makingIn (Welcomed v renew ticket service said) = none
+makingIn (Passed time) = noMaking
+makingIn (Showed lt) = noMaking
+makingIn (Spent lt) = noMaking
+makingIn (Ended cookie) = noMaking
+makingIn (Opened cookie user signed lt) = noMaking
+makingIn (Issued cookie service ticket signed lt) = noMaking
+makingIn (Proxied pgt target ticket) = noMaking
+makingIn (Burnt ticket) = noMaking
+makingIn (Welcomed v renew ticket service said) = noMaking
 makingIn (CalledBack v renew ticket service url pgt iou serial) = making ticket url pgt iou serial
-makingIn (Settled serial outcome said) = none
+makingIn (Settled serial outcome said) = noMaking
 
 -- an item that opens a session: the cookie, and the username of that sign-on
 pub data Opening : Type 0 where
-  none : Opening
+  noOpening : Opening
   opening : (cookie user : Text) → Opening
 
 abbrev pub openingIn : Item → Opening
-openingIn (Passed time) = none
-openingIn (Showed lt) = none
-openingIn (Spent lt) = none
-openingIn (Ended cookie) = none
+openingIn (Passed time) = noOpening
+openingIn (Showed lt) = noOpening
+openingIn (Spent lt) = noOpening
+openingIn (Ended cookie) = noOpening
 openingIn (Opened cookie user signed lt) = opening cookie user
-openingIn (Issued cookie service ticket signed lt) = none
-openingIn (Proxied pgt target ticket) = none
-openingIn (Burnt ticket) = none
-openingIn (Welcomed v renew ticket service said) = none
-openingIn (CalledBack v renew ticket service url pgt iou serial) = none
-openingIn (Settled serial outcome said) = none
+openingIn (Issued cookie service ticket signed lt) = noOpening
+openingIn (Proxied pgt target ticket) = noOpening
+openingIn (Burnt ticket) = noOpening
+openingIn (Welcomed v renew ticket service said) = noOpening
+openingIn (CalledBack v renew ticket service url pgt iou serial) = noOpening
+openingIn (Settled serial outcome said) = noOpening
 
 -- an item that spends a login ticket
 pub data Spending : Type 0 where
-  none : Spending
+  noSpending : Spending
   spending : (lt : Text) → Spending
 
 abbrev pub spendingIn : Item → Spending
-spendingIn (Passed time) = none
-spendingIn (Showed lt) = none
+spendingIn (Passed time) = noSpending
+spendingIn (Showed lt) = noSpending
 spendingIn (Spent lt) = spending lt
-spendingIn (Ended cookie) = none
-spendingIn (Opened cookie user signed lt) = none
-spendingIn (Issued cookie service ticket signed lt) = none
-spendingIn (Proxied pgt target ticket) = none
-spendingIn (Burnt ticket) = none
-spendingIn (Welcomed v renew ticket service said) = none
-spendingIn (CalledBack v renew ticket service url pgt iou serial) = none
-spendingIn (Settled serial outcome said) = none
+spendingIn (Ended cookie) = noSpending
+spendingIn (Opened cookie user signed lt) = noSpending
+spendingIn (Issued cookie service ticket signed lt) = noSpending
+spendingIn (Proxied pgt target ticket) = noSpending
+spendingIn (Burnt ticket) = noSpending
+spendingIn (Welcomed v renew ticket service said) = noSpending
+spendingIn (CalledBack v renew ticket service url pgt iou serial) = noSpending
+spendingIn (Settled serial outcome said) = noSpending
 
 -- whose accepted credentials opened the session of a cookie: the username of the sign-on that wrote it
 abbrev pub openedHere : Opening → Text → Text → Text
-openedHere none cookie before = before
+openedHere noOpening cookie before = before
 openedHere (opening c user) cookie before = if (same c cookie) user before
 
 unfoldable pub openerOf : List Item → Text → Text
@@ -101,7 +101,7 @@ loginLive lt b = isFound (look (isLine aLogin lt) (b .book))
 
 -- a login ticket was live when the newest sign-on that shows it spent it; the one that issues a ticket spends its own just before
 abbrev pub spentHere : Spending → Text → Bool → Bool → Bool
-spentHere none lt live before = before
+spentHere noSpending lt live before = before
 spentHere (spending l) lt live before = if (same l lt) live before
 
 unfoldable pub spentLive : ℕ → List Item → Text → Bool
@@ -141,7 +141,7 @@ abbrev pub grantOrigin : Text → Granting → Origin
 grantOrigin target g = record { issued = true; service = target; user = g .user; chain = g .url ∷ g .chain; proxied = true; credentials = false }
 
 abbrev pub issuedHere : Issue → Text → (Text → Text) → (Text → Bool) → (Text → Granting) → Origin → Origin
-issuedHere none x user live grant before = before
+issuedHere noIssue x user live grant before = before
 issuedHere (byLogin cookie service ticket signed lt) x user live grant before = if (same ticket x) (loginOrigin service (user cookie) (signed && live lt)) before
 issuedHere (byGrant pgt target ticket) x user live grant before = if (same ticket x) (grantOrigin target (grant pgt)) before
 
@@ -150,11 +150,11 @@ abbrev pub madeFrom : Text → Text → Text → Origin → Granting
 madeFrom ticket iou url o = record { made = true; ticket = ticket; iou = iou; user = o .user; chain = o .chain; url = url }
 
 abbrev pub madeHere : Making → Text → (Text → Origin) → Granting → Granting
-madeHere none g origin before = before
+madeHere noMaking g origin before = before
 madeHere (making ticket url pgt iou serial) g origin before = if (same pgt g) (madeFrom ticket iou url (origin ticket)) before
 
 abbrev pub calledHere : Making → ℕ → (Text → Origin) → Granting → Granting
-calledHere none n origin before = before
+calledHere noMaking n origin before = before
 calledHere (making ticket url pgt iou serial) n origin before = if (eqb serial n) (madeFrom ticket iou url (origin ticket)) before
 
 unfoldable mutual
