@@ -11,6 +11,7 @@ use Rattle.protocol.specs.Bytes.{if, ascii, isEmpty, same}
 use Rattle.protocol.specs.Tickets.{aProxy}
 use Rattle.protocol.specs.Records.{Rec}
 use Rattle.protocol.specs.Table.{Table, decodeTable, recAt}
+use Rattle.protocol.specs.Register.{decodeRegister}
 use Rattle.protocol.specs.Request.{malformed, validatorNames, valueOf, fromQuery, present, decoded, rawValue}
 use Rattle.protocol.specs.Answers.{InvalidRequest, InvalidTicket, InvalidService}
 use Rattle.protocol.specs.Steps.{Brought, step, remove, ticketSlot, failed, takesProxies, proxyParent, grants, waitingStep, acceptTicket, judgeTicket, presented, validate}
@@ -153,3 +154,9 @@ pub given-told : (v : Validator) (q : List ℕ) (x : ValidatorQuery) (s t : ℕ)
 given-told v q x s t renew p e y =
     let k = validator-told v q s t renew p x e y in
     record { fine = k .fine; service = k .service; ticket = k .ticket; renews = k .renew }
+
+-- cookie and verdict are not read
+pub unread : (v : Validator) (q register cookie random : List ℕ) (verdict : Bool) (t : Table)
+    → validate v q (bringing register random) t ≡ validate v q (record { register = decodeRegister register; cookie = cookie; random = random; verdict = verdict }) t
+unfolding validate presented judgeTicket acceptTicket grants waitingStep
+unread v q register cookie random verdict t = refl
