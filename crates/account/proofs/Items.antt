@@ -4,29 +4,31 @@ use mathlib.Core.Bool.{Bool, true, false, not}
 use mathlib.Core.List.{List, [], _∷_}
 use Prim.Native.Nat.{ℕ, zero, suc, _+_, _≤_, _<_}
 use native.Mathlib.Omega.{arith}
-use borrow.Author.Tests.{eqb-true}
+use borrow.Author.Tests.{lt-ltb, eqb-true}
 use lib.ListN.{getD, set, List·getD-map}
 use lib.Dec.{eqb}
-use Rattle.protocol.specs.Bytes.{if, ascii}
+use Rattle.protocol.specs.Bytes.{if, ascii, same}
 use Rattle.protocol.specs.Tickets.{iouText, iouFrom, aLogin, aSession, aService, aProxy, aWaiting, aGrant}
 use Rattle.protocol.specs.Records.{Rec, freeRec, nameOf}
 use Rattle.protocol.specs.Table.{Table, recAt, putAt}
 use Rattle.protocol.specs.Answers.{successText}
 use Rattle.protocol.specs.Steps.{tick, put, remove, endSession, isNamed, slotNamed, sessionOf, ticketSlot, waitingSlot, newRec, add, chainOf, proxyParent, granted, isPlain, takesProxies}
 use Rattle.protocol.specs.declared.Validator.{Validator}
+use Rattle.protocol.proofs.Laws.{both, same-eq}
 use Rattle.protocol.proofs.Added.{Room}
 use Rattle.account.specs.History.{Text}
 use Rattle.account.specs.Reading.{Item, Passed, Showed, Spent, Ended, Opened, Issued, Proxied, Burnt, Welcomed, CalledBack, Settled}
-use Rattle.account.specs.Notebook.{Fate, burnt, accepted, spent, Notebook, isHeld, closeAll, isLine, isTicket, isTicketLine, isWaitingLine, note, notebook}
-use Rattle.account.specs.Truth.{loginLive, spentLive}
+use Rattle.account.specs.Notebook.{Line, Fate, burnt, accepted, spent, Notebook, isHeld, closeAll, isLine, isTicket, isTicketLine, isWaitingLine, note, notebook}
+use Rattle.account.specs.Truth.{clockOf, loginUntil, loginLive, spentLive}
 use Rattle.account.proofs.Base.{Case, is, isnt, case, clash}
 use Rattle.account.proofs.Sim.{Slot, noSlot, on, Above, Up, upOf, Under, Sim}
 use Rattle.account.proofs.Edits.{alive-time, under-of, home-lives}
-use Rattle.account.proofs.Look.{recOf, Tied, rec-on, Hit, isTicketNamed, isWaitingOf, hit-named, hit-slot, miss-named, hit-ticket, miss-ticket, hit-waiting, ticket-kind, waiting-kind, named-kind}
+use Rattle.account.proofs.Look.{seen, recOf, Tied, rec-on, Hit, isTicketNamed, isWaitingOf, hit-named, hit-slot, miss-named, hit-ticket, miss-ticket, hit-waiting, ticket-kind, waiting-kind, named-kind}
 use Rattle.account.proofs.Tables.{put-slots, tied-none, tied-remove, tied-removed, some-slot, spent-good, tied-pass}
 use Rattle.account.proofs.Sessions.{end-some, end-none, tied-raise}
 use Rattle.account.proofs.Making.{new-text, new-ref, tied-login, tied-session, session-source, under-source, tied-under}
 use Rattle.account.proofs.Reached.{RightLine, OwesSettle, Reached}
+use Rattle.account.proofs.Logins.{clock-told, all-logins}
 use Rattle.account.proofs.Chains.{user-ok, chain-ok, depth-ok, ticket-up, waiting-up}
 
 -- a table as it was, put together again
@@ -63,8 +65,16 @@ module _ (start : ℕ) (h : List Item) (t : Table) (R : Reached start h t) where
           tied-remove L t (R .tied) (slotNamed aLogin lt t) (x .live) (λ e. omega arith) (λ e. omega arith) (isLine aLogin lt) spent refl (x .picked) (x .others)
 
   -- and it was live
-  pub spend-live : (lt : Text) → eqb (slotNamed aLogin lt t) 0 ≡ false → loginLive lt L ≡ true
-  spend-live lt z = let x = hit-named L t (R .tied) aLogin lt (omega arith) z in rw (x .line)
+  pub spend-live : (lt : Text) → eqb (slotNamed aLogin lt t) 0 ≡ false → loginLive start h lt ≡ true
+  spend-live lt z =
+      let x = hit-named L t (R .tied) aLogin lt (omega arith) z in
+      let e : Line = on (R .tied .A) (slotNamed aLogin lt t) .e in
+      let s = seen (isLine aLogin lt) (L .book) e (x .line) in
+      let w = both (eqb (e .kind) aLogin) (same (e .name) lt) (s .2) in
+      let n : e .name ≡ lt = same-eq (e .name) lt (w .1) in
+      let u : loginUntil start h lt ≡ e .expiry = rw n at (all-logins start h (R .paid) e (s .0) (w .0) (s .1)) in
+      let g = R .tied .sim .good (slotNamed aLogin lt t) (x .live) in
+      lt-ltb (clockOf start h) (loginUntil start h lt) (omega (arith, clock-told start h, g .expiry-eq, alive-time (L .clock) (on (R .tied .A) (slotNamed aLogin lt t) .r) (x .live)))
 
   pub reach-end : (cookie : Text) → eqb (sessionOf cookie t) 0 ≡ false → Reached start (Ended cookie ∷ h) (endSession (sessionOf cookie t) t)
   unfolding notebook note

@@ -8,6 +8,7 @@ pub mod Sessions
 pub mod Making
 pub mod Chains
 pub mod Reached
+pub mod Logins
 pub mod Items
 pub mod Rules
 pub mod Texts

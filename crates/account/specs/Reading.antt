@@ -45,7 +45,7 @@ pub data Item : Type 0 where
 abbrev pub ticketIn : Text → Text → Text
 ticketIn service said = drop (length service + 8) said
 
--- a form has `<form` after its three first lines, and its login ticket up to the next `"` after the fourth input's value begins
+-- a form has `<form` after its three first lines, and its login ticket up to the next `"` after the third input's value begins
 abbrev pub formStart : Text
 formStart = ascii "<form method=\"post\" action=\"/cas/login\">\n<input name=\"username\">\n<input name=\"password\" type=\"password\">\n<input name=\"lt\" type=\"hidden\" value=\""
 

@@ -1,13 +1,12 @@
 -- Where a ticket comes from, told from the history alone, besides the notebook: its service, its user, its true chain, its credentials.
 use mathlib.Core.Bool.{Bool, true, false, _&&_}
 use mathlib.Core.List.{List, [], _∷_}
-use Prim.Native.Nat.{ℕ}
-use lib.Dec.{eqb}
+use Prim.Native.Nat.{ℕ, _+_, max}
+use lib.Dec.{eqb, ltb}
 use Rattle.protocol.specs.Bytes.{if, same}
-use Rattle.protocol.specs.Tickets.{aLogin}
+use Rattle.protocol.specs.Tickets.{aLogin, lifetime}
 use Rattle.account.specs.History.{Text}
 use Rattle.account.specs.Reading.{Item, Passed, Showed, Spent, Ended, Opened, Issued, Proxied, Burnt, Welcomed, CalledBack, Settled}
-use Rattle.account.specs.Notebook.{Notebook, Look, found, nothing, look, isLine, notebook}
 
 -- an item that issues a ticket: by a login, or by a grant
 pub data Issue : Type 0 where
@@ -91,13 +90,66 @@ unfoldable pub openerOf : List Item → Text → Text
 openerOf [] cookie = []
 openerOf (i ∷ older) cookie = openedHere (openingIn i) cookie (openerOf older cookie)
 
--- a login ticket is live: the notebook holds it
-abbrev pub isFound : Look → Bool
-isFound (found e) = true
-isFound nothing = false
+-- an item that tells the time, and one that shows a login ticket
+pub data Passing : Type 0 where
+  noPassing : Passing
+  passing : (time : ℕ) → Passing
 
-abbrev pub loginLive : Text → Notebook → Bool
-loginLive lt b = isFound (look (isLine aLogin lt) (b .book))
+abbrev pub passingIn : Item → Passing
+passingIn (Passed time) = passing time
+passingIn (Showed lt) = noPassing
+passingIn (Spent lt) = noPassing
+passingIn (Ended cookie) = noPassing
+passingIn (Opened cookie user signed lt) = noPassing
+passingIn (Issued cookie service ticket signed lt) = noPassing
+passingIn (Proxied pgt target ticket) = noPassing
+passingIn (Burnt ticket) = noPassing
+passingIn (Welcomed v renew ticket service said) = noPassing
+passingIn (CalledBack v renew ticket service url pgt iou serial) = noPassing
+passingIn (Settled serial outcome said) = noPassing
+
+pub data Showing : Type 0 where
+  noShowing : Showing
+  showing : (lt : Text) → Showing
+
+abbrev pub showingIn : Item → Showing
+showingIn (Passed time) = noShowing
+showingIn (Showed lt) = showing lt
+showingIn (Spent lt) = noShowing
+showingIn (Ended cookie) = noShowing
+showingIn (Opened cookie user signed lt) = noShowing
+showingIn (Issued cookie service ticket signed lt) = noShowing
+showingIn (Proxied pgt target ticket) = noShowing
+showingIn (Burnt ticket) = noShowing
+showingIn (Welcomed v renew ticket service said) = noShowing
+showingIn (CalledBack v renew ticket service url pgt iou serial) = noShowing
+showingIn (Settled serial outcome said) = noShowing
+
+-- the clock: the latest of the format's time and those of answered calls
+abbrev pub clockHere : Passing → ℕ → ℕ
+clockHere noPassing before = before
+clockHere (passing time) before = max before time
+
+unfoldable pub clockOf : ℕ → List Item → ℕ
+clockOf start [] = start
+clockOf start (i ∷ older) = clockHere (passingIn i) (clockOf start older)
+
+-- when a login ticket expires: its lifetime after the form that showed it; at once when a sign-on has shown it
+abbrev pub shownHere : Showing → Text → ℕ → ℕ → ℕ
+shownHere noShowing lt fresh before = before
+shownHere (showing l) lt fresh before = if (same l lt) fresh before
+
+abbrev pub goneHere : Spending → Text → ℕ → ℕ
+goneHere noSpending lt before = before
+goneHere (spending l) lt before = if (same l lt) 0 before
+
+unfoldable pub loginUntil : ℕ → List Item → Text → ℕ
+loginUntil start [] lt = 0
+loginUntil start (i ∷ older) lt = goneHere (spendingIn i) lt (shownHere (showingIn i) lt (clockOf start older + lifetime aLogin) (loginUntil start older lt))
+
+-- a login ticket is live
+abbrev pub loginLive : ℕ → List Item → Text → Bool
+loginLive start older lt = ltb (clockOf start older) (loginUntil start older lt)
 
 -- a login ticket was live when the newest sign-on that shows it spent it; the one that issues a ticket spends its own just before
 abbrev pub spentHere : Spending → Text → Bool → Bool → Bool
@@ -106,7 +158,7 @@ spentHere (spending l) lt live before = if (same l lt) live before
 
 unfoldable pub spentLive : ℕ → List Item → Text → Bool
 spentLive start [] lt = false
-spentLive start (i ∷ older) lt = spentHere (spendingIn i) lt (loginLive lt (notebook start older)) (spentLive start older lt)
+spentLive start (i ∷ older) lt = spentHere (spendingIn i) lt (loginLive start older lt) (spentLive start older lt)
 
 -- a ticket: it was issued, to this service, under a session of this user, with this chain, by a grant, by accepted credentials
 pub record Origin : Type 0 where
