@@ -8,17 +8,23 @@ use borrow.Author.Tests.{eq-eqb, ne-eqb, leb-true}
 use lib.Dec.{leb}
 use lib.ListN.{length}
 use Rattle.protocol.specs.Table.{encodeTable, decodeTable, tableShape, tableLawful, lastTime, formatted}
-use Rattle.protocol.specs.Steps.{Step, tick, finish}
-use Rattle.protocol.specs.Calls.{result, refusedOutcome, delivered, numbered, formatRefusal, formatOf, finishRefusal, finishOf}
-use Rattle.protocol.specs.Held.{Holds, Lawful, Done}
+use Rattle.protocol.specs.Request.{pathNamed, pathPart, queryPart}
+use Rattle.protocol.specs.Steps.{tick, requestStep, finish}
+use Rattle.protocol.specs.Calls.{inputs, result, refusedOutcome, answerRefusal, stepOf, answerOf, numbered, formatRefusal, formatOf, finishRefusal, finishOf}
+use Rattle.protocol.specs.Held.{Holds, Lawful, Done, Did}
+use Rattle.protocol.specs.declared.Method.{Method}
+use Rattle.protocol.specs.declared.Method.the-variants as method
 use Rattle.protocol.specs.declared.Outcome.{Outcome}
 use Rattle.protocol.proofs.Laws.{lawful-rules}
 use Rattle.protocol.proofs.Sound.{sound-lawful, tick-sound}
 use Rattle.protocol.proofs.Held.{sound-held, holds-bytes}
 use Rattle.protocol.proofs.Told.{done-did, did-delivered}
-use Rattle.protocol.proofs.Lasting.{passes}
+use Rattle.protocol.proofs.Lasting.{passes, Passed}
+use Rattle.protocol.proofs.Top.{top-passed}
 use Rattle.judge.proofs.Worth.{shaped, lawful-law}
 use Rattle.edit.specs.Edits.{Shape}
+use Rattle.offer.specs.Offers.{broughtBy}
+use Rattle.route.specs.Lent.{Lent}
 
 -- the clock keeps a lawful table lawful
 pub clock-lawful : (b : List ℕ) {b′ : List ℕ} (n : ℕ) → Lawful b → n ≤ lastTime → Holds b′ (tick n (decodeTable b)) → Lawful b′
@@ -76,3 +82,26 @@ module _ (t : List ℕ) (n : ℕ) (o : List ℕ) {x : ℕ} (e : x ≡ finishRefu
     unfolding finishOf
     finish-done s v {b} {t′} {o′} {y} k d =
         did-delivered (done-did [] d) ∙ rw (k .is, ← e, eq-eqb x 0 z)
+
+-- answer; what the refusals read besides, they read of every method, cookie and verdict alike
+module _ (t g u b : List ℕ) (n : ℕ) (d o c : List ℕ) {x : ℕ} (e : x ≡ answerRefusal t g (length u) (length b) n (length d) (length o) (length c)) (z : x ≡ 0) where
+  told : Passed (inputs t g method.Get u b [] n d false o c)
+  told = top-passed t g method.Get u b [] n d false o c e z
+
+  pub answer-lawful : Lawful t
+  answer-lawful = lawful-law t (told .shape) (told .lawful)
+
+  pub answer-time : n ≤ lastTime
+  answer-time = told .time
+
+  pub answer-cookie : 64 ≤ length c
+  answer-cookie = told .cookie
+
+  pub answer-lent : {b′ : List ℕ} → Holds b′ (tick n (decodeTable t)) → Lent b′ g d o
+  answer-lent k = record { lawful = clock-lawful t n answer-lawful answer-time k; panels = told .register; drawn = told .random; room = told .out }
+
+  pub answer-done : (m : Method) (k : List ℕ) (v : Bool) {b′ t′ o′ c′ : List ℕ} {y : Outcome} → Holds b′ (tick n (decodeTable t))
+      → Did (requestStep m (pathNamed (pathPart u)) (queryPart u) b (broughtBy g k d v) (decodeTable b′)) y t′ o o′ c c′
+      → result y t′ o′ c′ ≡ answerOf (inputs t g m u b k n d v o c)
+  unfolding answerOf stepOf
+  answer-done m k v h w = did-delivered w ∙ rw (h .is, ← e, eq-eqb x 0 z)

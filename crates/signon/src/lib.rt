@@ -3,10 +3,11 @@
 // is written; or it does what the protocol says.
 use protocol::Answer;
 use protocol::Form;
+use protocol::Method;
 use protocol::Outcome;
 ghost use mathlib.Core.Path.{_≡_};
 ghost use mathlib.Core.List.{[]};
-ghost use Rattle.protocol.specs.Calls.{refusedOutcome, numbered, formatOf, checkOf, formRead, formOf, result, finishOf};
+ghost use Rattle.protocol.specs.Calls.{refusedOutcome, numbered, formatOf, checkOf, formRead, formOf, inputs, result, answerOf, finishOf};
 
 // A refused call's result: its number, all else 0.
 fn refused(number: u32) -> Outcome
@@ -47,6 +48,50 @@ pub fn read_form(body: &[u8], username: &mut [u8], password: &mut [u8]) -> Form
     ensures { λ r. ⌜ formRead r (now (username .exit)) (now (password .exit)) ≡ formOf (now (body .entry)) (now (username .entry)) (now (password .entry)) ⌝ }
 {
     form::read_form(body, username, password)
+}
+
+// A request, its cookie and the host's verdict on a password: the answer into `out`, a new session's cookie into `cookie_out`.
+pub fn answer(
+    table: &mut [u8],
+    register: &[u8],
+    method: Method,
+    target: &[u8],
+    body: &[u8],
+    cookie: &[u8],
+    time: u64,
+    random: &[u8],
+    verdict: bool,
+    out: &mut [u8],
+    cookie_out: &mut [u8],
+) -> Outcome
+    ensures { λ r. ⌜ result r (now (table .exit)) (now (out .exit)) (now («cookie_out» .exit)) ≡ answerOf (inputs (now (table .entry)) (now (register .entry)) method (now (target .entry)) (now (body .entry)) (now (cookie .entry)) time (now (random .entry)) verdict (now (out .entry)) (now («cookie_out» .entry))) ⌝ }
+{
+    let number = refuse::of_answer(
+        table,
+        register,
+        target.len(),
+        body.len(),
+        time,
+        random.len(),
+        out.len(),
+        cookie_out.len(),
+    );
+    if number != 0 {
+        return refused(number);
+    }
+    edit::tick(table, time);
+    route::request(
+        table,
+        register,
+        method,
+        target,
+        body,
+        cookie,
+        random,
+        verdict,
+        out,
+        cookie_out,
+    )
 }
 
 // The outcome of the callback of a serial, yes only after a good certificate and a 200.

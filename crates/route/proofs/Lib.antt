@@ -1,0 +1,3 @@
+-- What each path's step reads, and that the dispatch is the protocol's.
+pub mod Unread
+pub mod Laws

@@ -1,0 +1,2 @@
+-- What the contracts of the dispatch are said in.
+pub mod Lent
