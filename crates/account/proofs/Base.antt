@@ -1,15 +1,15 @@
 -- Tests, choices, sums over lists, and what a ticket's text tells. Assumes nothing.
-use mathlib.Core.Path.{_≡_, refl, sym, ap, ap₂, _∙_, subst}
-use mathlib.Core.Bool.{Bool, true, false, not, _&&_, _||_}
+use mathlib.Core.Path.{_≡_, refl, sym, ap, ap₂, _∙_}
+use mathlib.Core.Bool.{Bool, true, false, _&&_, _||_}
 use mathlib.Core.List.{List, [], _∷_, _++_, map}
-use Prim.Native.Nat.{ℕ, zero, suc, _+_, _*_, _^_, _≤_, _<_}
+use Prim.Native.Nat.{ℕ, zero, suc, _+_, _^_, _≤_, _<_}
 use native.Mathlib.Omega.{arith}
 use native.Mathlib.Nat.{not-suc-le-zero, le-of-suc-le-suc}
-use lib.Dec.{eqb, leb, ltb, lit<}
+use borrow.Author.Tests.{eq-eqb, eqb-true}
+use lib.Dec.{eqb, lit<}
 use lib.ListN.{length, getD, set, take}
-use Rattle.protocol.specs.Bytes.{if, same, ascii, upTo, past, decimal, hex}
+use Rattle.protocol.specs.Bytes.{if, same, upTo, past, decimal, hex}
 use Rattle.protocol.specs.Tickets.{ticketText, secretLength}
-use Rattle.protocol.proofs.Laws.{same-eq}
 use Rattle.protocol.proofs.Names.{readDecimal, digits-read, digits-within, upTo-digits}
 
 -- the two cases of a test, with the equation
@@ -32,6 +32,10 @@ clash {b} t f = go b t f
 pub fork : {A : Type 0} (P : A → Type 0) (b : Bool) {x y : A} → (b ≡ true → P x) → (b ≡ false → P y) → P (if b x y)
 fork P true f g = f refl
 fork P false f g = g refl
+
+pub if-same : {A : Type 0} (b : Bool) (x : A) → if b x x ≡ x
+if-same true x = refl
+if-same false x = refl
 
 -- two tests that pass together are one
 pub one-test : (a b : Bool) → (a ≡ true → b ≡ true) → (b ≡ true → a ≡ true) → a ≡ b
@@ -71,8 +75,8 @@ same-sym (x ∷ a) (y ∷ b) = ap₂ _&&_ (eqb-sym x y) (same-sym a b)
     eqb-sym : (x y : ℕ) → eqb x y ≡ eqb y x
     eqb-sym x y =
         one-test (eqb x y) (eqb y x)
-          (λ e. borrow.Author.Tests.eq-eqb y x (sym (borrow.Author.Tests.eqb-true x y e)))
-          (λ e. borrow.Author.Tests.eq-eqb x y (sym (borrow.Author.Tests.eqb-true y x e)))
+        (λ e. eq-eqb y x (sym (eqb-true x y e)))
+        (λ e. eq-eqb x y (sym (eqb-true y x e)))
 
 -- a number that counts where a test holds, and sums
 abbrev pub when : Bool → ℕ → ℕ

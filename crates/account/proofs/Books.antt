@@ -1,29 +1,32 @@
 -- The notebook's own books: tickets issued and accepted, and each ticket's one right to a success answer. No table here. Assumes nothing.
-use mathlib.Core.Path.{_≡_, refl, sym, ap, ap₂, _∙_, subst}
+use mathlib.Core.Path.{_≡_, refl, ap₂}
 use mathlib.Core.Logic.{_⊎_, inl, inr, _≢_}
-use mathlib.Core.Bool.{Bool, true, false, not, _&&_, _||_}
-use mathlib.Core.List.{List, [], _∷_, _++_, map, List·Memᴰ, List·Memᴰ·cases-cons, List·Memᴰ·not-nil, List·Memᴰ·head, List·Memᴰ·tail, Memᴰ·map, Memᴰ·of-map}
-use Prim.Native.Nat.{ℕ, zero, suc, _+_, _≤_, _<_}
+use mathlib.Core.Bool.{Bool, true, false, _&&_}
+use mathlib.Core.List.{List, [], _∷_, map, List·Memᴰ, List·Memᴰ·cases-cons, List·Memᴰ·not-nil, List·Memᴰ·head, List·Memᴰ·tail, Memᴰ·map}
+use Prim.Native.Nat.{ℕ, _+_, _≤_}
 use native.Mathlib.Omega.{arith}
 use borrow.Author.Tests.{eqb-true}
 use lib.Dec.{eqb}
 use Rattle.protocol.specs.Bytes.{if, same}
 use Rattle.protocol.specs.Tickets.{aWaiting}
-use Rattle.protocol.proofs.Laws.{both, same-eq, same-refl}
+use Rattle.protocol.proofs.Laws.{both, same-eq}
 use Rattle.account.specs.History.{Text}
-use Rattle.account.specs.Notebook.{Fate, held, accepted, burnt, ended, expired, spent, Line, isHeld, close, closeLine, raise, raiseLine, isTicket, isTicketLine, isWaitingLine, tally, isAccepted, isBurnt, isEnded, isExpired}
-use Rattle.account.proofs.Base.{Case, is, isnt, case, clash, untrue, when, sum}
+use Rattle.account.specs.Notebook.{Fate, held, accepted, burnt, ended, expired, spent, Line, isHeld, closeLine, raiseLine, isTicket, isTicketLine, isWaitingLine, tally, isAccepted, isBurnt, isEnded, isExpired}
+use Rattle.account.proofs.Base.{Case, is, isnt, case, clash, untrue, when}
 use Rattle.account.proofs.Sim.{heft, total}
-use Rattle.account.proofs.Edits.{close-name}
 
 -- a ticket's right to one success: held, or handed on to its waiting grant
 abbrev pub claim : Text → Line → ℕ
 claim k e = when (isTicket (e .kind) && same (e .name) k) 1 + when (eqb (e .kind) aWaiting && same (e .origin) k) 1
 
--- each right is held, owed just now (c) or used (wins), in all at most once; and there is none to a text that no line has
-pub record Owing (book : List Line) (wins c : Text → ℕ) : Type 0 where
-  pub most : (k : Text) → total (claim k) book + wins k + c k ≤ 1
-  pub far : (k : Text) → ((e : Line) → List·Memᴰ e book → e .name ≢ k) → total (claim k) book + wins k + c k ≡ 0
+-- a ticket's one acceptance, as long as it is held
+abbrev pub turn : Text → Line → ℕ
+turn k e = when (isTicket (e .kind) && same (e .name) k) 1
+
+-- each right, such as a claim or a turn, is held, owed just now (c) or used (wins), in all at most once; and there is none to a text that no line has
+pub record Owing (right : Text → Line → ℕ) (book : List Line) (wins c : Text → ℕ) : Type 0 where
+  pub most : (k : Text) → total (right k) book + wins k + c k ≤ 1
+  pub far : (k : Text) → ((e : Line) → List·Memᴰ e book → e .name ≢ k) → total (right k) book + wins k + c k ≡ 0
 
 abbrev pub nil : Text → ℕ
 nil k = 0
@@ -45,61 +48,62 @@ total-pays f g c h x hx (e ∷ es) m = go (List·Memᴰ·cases-cons m) (total-pa
     go (inr m) ih = omega (arith, h e, ih m)
 
 -- the lines go through g; what x gives up is owed
-pub pay : (book : List Line) (wins : Text → ℕ) (g : Line → Line) (c : Text → ℕ) → ((k : Text) (e : Line) → heft (claim k) (g e) ≤ heft (claim k) e) → ((e : Line) → g e .name ≡ e .name)
-    → (x : Line) → List·Memᴰ x book → ((k : Text) → heft (claim k) (g x) + c k ≤ heft (claim k) x) → Owing book wins nil → Owing (map g book) wins c
-pay book wins g c less names x m hx o =
+pub pay : (right : Text → Line → ℕ) (book : List Line) (wins : Text → ℕ) (g : Line → Line) (c : Text → ℕ) → ((k : Text) (e : Line) → heft (right k) (g e) ≤ heft (right k) e) → ((e : Line) → g e .name ≡ e .name)
+    → (x : Line) → List·Memᴰ x book → ((k : Text) → heft (right k) (g x) + c k ≤ heft (right k) x) → Owing right book wins nil → Owing right (map g book) wins c
+pay right book wins g c less names x m hx o =
     record {
-      most = λ k. omega (arith, total-pays (claim k) g (c k) (less k) x (hx k) book m, o .most k);
+      most = λ k. omega (arith, total-pays (right k) g (c k) (less k) x (hx k) book m, o .most k);
       far = λ k h.
-        let z = o .far k (λ e me. rw (names e) at (h (g e) (Memᴰ·map g me))) in
-        omega (arith, total-pays (claim k) g (c k) (less k) x (hx k) book m);
+          let z = o .far k (λ e me. rw (names e) at (h (g e) (Memᴰ·map g me))) in
+          omega (arith, total-pays (right k) g (c k) (less k) x (hx k) book m);
     }
 
-pub shrink : (book : List Line) (wins : Text → ℕ) (g : Line → Line) → ((k : Text) (e : Line) → heft (claim k) (g e) ≤ heft (claim k) e) → ((e : Line) → g e .name ≡ e .name)
-    → Owing book wins nil → Owing (map g book) wins nil
-shrink book wins g less names o =
+pub shrink : (right : Text → Line → ℕ) (book : List Line) (wins : Text → ℕ) (g : Line → Line) → ((k : Text) (e : Line) → heft (right k) (g e) ≤ heft (right k) e) → ((e : Line) → g e .name ≡ e .name)
+    → Owing right book wins nil → Owing right (map g book) wins nil
+shrink right book wins g less names o =
     record {
-      most = λ k. omega (arith, total-less (claim k) g (less k) book, o .most k);
+      most = λ k. omega (arith, total-less (right k) g (less k) book, o .most k);
       far = λ k h.
-        let z = o .far k (λ e me. rw (names e) at (h (g e) (Memᴰ·map g me))) in
-        omega (arith, total-less (claim k) g (less k) book);
+          let z = o .far k (λ e me. rw (names e) at (h (g e) (Memᴰ·map g me))) in
+          omega (arith, total-less (right k) g (less k) book);
     }
 
 -- what is owed is paid by a success answer
-pub pay-win : (book : List Line) (wins : Text → ℕ) (c : Text → ℕ) → Owing book wins c → Owing book (λ (k : Text). c k + wins k) nil
-pay-win book wins c o = record { most = λ k. omega (arith, o .most k); far = λ k h. let z = o .far k h in omega arith }
+pub pay-win : (right : Text → Line → ℕ) (book : List Line) (wins : Text → ℕ) (c : Text → ℕ) → Owing right book wins c → Owing right book (λ (k : Text). c k + wins k) nil
+pay-win right book wins c o = record { most = λ k. omega (arith, o .most k); far = λ k h. let z = o .far k h in omega arith }
 
 -- or handed on to a new line; and a new ticket's right is its own
-pub pay-enter : (book : List Line) (wins c : Text → ℕ) (x : Line) → ((e : Line) → List·Memᴰ e book → e .name ≢ x .name) → ((k : Text) → heft (claim k) x ≤ c k + just (x .name) k)
-    → Owing book wins c → Owing (x ∷ book) wins nil
-pay-enter book wins c x new hx o = record { most = λ k. go k (case (same (x .name) k)); far = far }
+pub pay-enter : (right : Text → Line → ℕ) (book : List Line) (wins c : Text → ℕ) (x : Line) → ((e : Line) → List·Memᴰ e book → e .name ≢ x .name) → ((k : Text) → heft (right k) x ≤ c k + just (x .name) k)
+    → Owing right book wins c → Owing right (x ∷ book) wins nil
+pay-enter right book wins c x new hx o = record { most = λ k. go k (case (same (x .name) k)); far = far }
   where
-    go : (k : Text) → Case (same (x .name) k) → total (claim k) (x ∷ book) + wins k + 0 ≤ 1
+    go : (k : Text) → Case (same (x .name) k) → total (right k) (x ∷ book) + wins k + 0 ≤ 1
     go k (is e) =
         let z = o .far (x .name) new in
-        let z′ : total (claim k) book + wins k + c k ≡ 0 = rw (same-eq (x .name) k e) at z in
+        let z′ : total (right k) book + wins k + c k ≡ 0 = rw (same-eq (x .name) k e) at z in
         let w : just (x .name) k ≡ 1 = rw e in
         omega (arith, hx k)
     go k (isnt ne) =
         let w : just (x .name) k ≡ 0 = rw ne in
         omega (arith, hx k, o .most k)
-    far : (k : Text) → ((e : Line) → List·Memᴰ e (x ∷ book) → e .name ≢ k) → total (claim k) (x ∷ book) + wins k + 0 ≡ 0
+
+    far : (k : Text) → ((e : Line) → List·Memᴰ e (x ∷ book) → e .name ≢ k) → total (right k) (x ∷ book) + wins k + 0 ≡ 0
     far k h =
         let z = o .far k (λ e m. h e (List·Memᴰ·tail m)) in
         let w : just (x .name) k ≡ 0 = rw (untrue (same (x .name) k) (λ t. h x (List·Memᴰ·head refl) (same-eq (x .name) k t))) in
         omega (arith, hx k)
 
 -- the same rights under another count of answers
-pub re-wins : (book : List Line) (wins wins′ : Text → ℕ) → ((k : Text) → wins′ k ≡ wins k) → Owing book wins nil → Owing book wins′ nil
-re-wins book wins wins′ same-wins o =
+pub re-wins : (right : Text → Line → ℕ) (book : List Line) (wins wins′ : Text → ℕ) → ((k : Text) → wins′ k ≡ wins k) → Owing right book wins nil → Owing right book wins′ nil
+re-wins right book wins wins′ same-wins o =
     record { most = λ k. omega (arith, same-wins k, o .most k); far = λ k h. let z = o .far k h in omega (arith, same-wins k) }
 
 -- What the edits do to a line's claim
 
-pub close-less : (F : Fate) (q : Line → Bool) → isHeld F ≡ false → (k : Text) (e : Line) → heft (claim k) (closeLine F q e) ≤ heft (claim k) e
-close-less F q hF k e = go (case (isHeld (e .fate) && q e))
+pub close-less : (right : Text → Line → ℕ) (F : Fate) (q : Line → Bool) → isHeld F ≡ false → (k : Text) (e : Line) → heft (right k) (closeLine F q e) ≤ heft (right k) e
+close-less right F q hF k e = go (case (isHeld (e .fate) && q e))
   where
-    go : Case (isHeld (e .fate) && q e) → heft (claim k) (closeLine F q e) ≤ heft (claim k) e
+    go : Case (isHeld (e .fate) && q e) → heft (right k) (closeLine F q e) ≤ heft (right k) e
     go (is z) = rw (z, hF) (omega arith)
     go (isnt z) = rw z (omega arith)
 
@@ -119,16 +123,21 @@ raise-less q k e = go (case (isHeld (e .fate) && q e)) (case (isHeld (e .fate)))
     go (is z) (isnt h) = rw (z, h) (omega arith)
     go (isnt z) c = rw z (omega arith)
 
+pub turn-pays : (F : Fate) (q : Line → Bool) → isHeld F ≡ false → (x : Line) → isHeld (x .fate) ≡ true → q x ≡ true → isTicket (x .kind) ≡ true → (k : Text)
+    → heft (turn k) (closeLine F q x) + just (x .name) k ≤ heft (turn k) x
+turn-pays F q hF x h z t k = rw (h, z, hF, t) (omega arith)
+
+pub turn-less : (q : Line → Bool) (k : Text) (e : Line) → heft (turn k) (raiseLine q e) ≤ heft (turn k) e
+turn-less q k e = go (case (isHeld (e .fate) && q e)) (case (isHeld (e .fate)))
+  where
+    go : Case (isHeld (e .fate) && q e) → Case (isHeld (e .fate)) → heft (turn k) (raiseLine q e) ≤ heft (turn k) e
+    go (is z) (is h) = rw (z, h) (omega arith)
+    go (is z) (isnt h) = rw (z, h) (omega arith)
+    go (isnt z) c = rw z (omega arith)
+
 pub raise-pays : (q : Line → Bool) (x : Line) → isHeld (x .fate) ≡ true → q x ≡ true → eqb (x .kind) aWaiting ≡ true → (k : Text)
     → heft (claim k) (raiseLine q x) + just (x .origin) k ≤ heft (claim k) x
 raise-pays q x h z w k = rw (h, z, w, h) (omega arith)
-
-pub raise-name : (q : Line → Bool) (e : Line) → raiseLine q e .name ≡ e .name
-raise-name q e = go (isHeld (e .fate) && q e)
-  where
-    go : (b : Bool) → if b (raise e) e .name ≡ e .name
-    go true = refl
-    go false = refl
 
 -- Counts
 
@@ -176,9 +185,11 @@ close-accepted q e = go (case (isHeld (e .fate))) (case (q e))
     fix : (b : Bool) → if (b && true) 1 0 ≡ if (b && false) 1 0 + when (b && true) 1
     fix true = refl
     fix false = refl
+
     same-still : (b c : Bool) → if (b && c) 1 0 ≡ if (b && c) 1 0 + when (b && false) 1
     same-still true c = omega arith
     same-still false c = refl
+
     go : Case (isHeld (e .fate)) → Case (q e) → tick1 isAccepted (closeLine accepted q e) ≡ tick1 isAccepted e + heft (λ e. when (isTicket (e .kind) && q e) 1) e
     go (is h) (is z) = rw (h, z, held-fate (e .fate) h) (fix (isTicket (e .kind)))
     go (is h) (isnt z) = rw (h, z) (same-still (isTicket (e .kind)) (isAccepted (e .fate)))
@@ -207,7 +218,7 @@ total-at f x (e ∷ es) m = go (List·Memᴰ·cases-cons m) (total-at f x es)
     go (inr m) ih = omega (arith, ih m)
 
 -- exactly one held ticket has the text of a held ticket
-pub just-one : (book : List Line) (wins : Text → ℕ) → Owing book wins nil → (ticket : Text) (x : Line) → List·Memᴰ x book → isHeld (x .fate) ≡ true → isTicketLine ticket x ≡ true
+pub just-one : (book : List Line) (wins : Text → ℕ) → Owing claim book wins nil → (ticket : Text) (x : Line) → List·Memᴰ x book → isHeld (x .fate) ≡ true → isTicketLine ticket x ≡ true
     → total (λ e. when (isTicket (e .kind) && isTicketLine ticket e) 1) book ≡ 1
 just-one book wins o ticket x m h t =
     let k = both (isTicket (x .kind)) (same (x .name) ticket) t .0 in

@@ -1,22 +1,19 @@
 -- The user and the proxy list that the table gives are those of the line. Assumes nothing.
-use mathlib.Core.Path.{_≡_, refl, sym, ap, ap₂, _∙_, subst}
-use mathlib.Core.Logic.{_≢_}
-use mathlib.Core.Bool.{Bool, true, false, not, _&&_, _||_}
-use mathlib.Core.List.{List, [], _∷_, _++_, map}
-use Prim.Native.Nat.{ℕ, zero, suc, _+_, _≤_, _<_}
+use mathlib.Core.Path.{_≡_, refl, sym, ap, _∙_}
+use mathlib.Core.Bool.{true}
+use mathlib.Core.List.{List, _∷_}
+use Prim.Native.Nat.{ℕ, zero, suc, _+_, _<_}
 use native.Mathlib.Omega.{arith}
-use borrow.Author.Tests.{ne-eqb, eqb-true}
-use lib.ListN.{getD}
+use borrow.Author.Tests.{eqb-true}
 use lib.Dec.{eqb}
-use Rattle.protocol.specs.Bytes.{if}
-use Rattle.protocol.specs.Records.{Rec, freeRec}
+use Rattle.protocol.specs.Records.{Rec}
 use Rattle.protocol.specs.Table.{recAt}
 use Rattle.protocol.specs.Steps.{chainFrom, chainOf, proxyParent}
 use Rattle.account.specs.History.{Text}
-use Rattle.account.specs.Notebook.{Line, Notebook, isTicket}
-use Rattle.account.proofs.Base.{Case, is, isnt, case, clash}
-use Rattle.account.proofs.Sim.{Slot, on, alive, lives, Above, Up, upOf, deep, Under, Good, Sim}
-use Rattle.account.proofs.Edits.{alive-is, alive-time, under-of}
+use Rattle.account.specs.Notebook.{Notebook, isTicket}
+use Rattle.account.proofs.Base.{Case, is, isnt, case}
+use Rattle.account.proofs.Sim.{Slot, on, lives, Above, Up, upOf, deep, Under, Sim}
+use Rattle.account.proofs.Edits.{alive-is, under-of}
 
 module _ (L : Notebook) (A : List Slot) (n : ℕ) (S : Sim L A n) (slots : List Rec) (rec : (k : ℕ) → recAt k slots ≡ on A k .r) where
   -- a parent grant lives
@@ -40,9 +37,9 @@ module _ (L : Notebook) (A : List Slot) (n : ℕ) (S : Sim L A n) (slots : List 
       let f : on A (suc k) .r .depth ≡ suc (deep A (on A (suc k) .r .parent)) = rw x at (u .falls (omega (arith, h .grants))) in
       let e′ : deep A (on A (suc k) .r .parent) ≡ d = omega arith in
       rw (rec (suc k))
-        (ap (λ (c : List Text). on A (suc k) .r .text ∷ c)
-          (walk d (on A (suc k) .r .parent) (on A (suc k) .r .session) (on A (suc k) .e .chain) (rw (h .its-session) v) e′ (rw x at (u .line)))
-        ∙ sym (h .linked))
+      (ap (λ (c : List Text). on A (suc k) .r .text ∷ c)
+      (walk d (on A (suc k) .r .parent) (on A (suc k) .r .session) (on A (suc k) .e .chain) (rw (h .its-session) v) e′ (rw x at (u .line)))
+      ∙ sym (h .linked))
 
   deep-is : (p : ℕ) → recAt p slots .depth ≡ deep A p
   deep-is zero = refl

@@ -1,8 +1,7 @@
 -- Tickets issued and accepted, counted over things said, and what a step must keep. Assumes nothing.
-use mathlib.Core.Path.{_≡_, refl, sym, ap, _∙_}
-use mathlib.Core.Logic.{_≢_}
-use mathlib.Core.Bool.{Bool, true, false, not, _&&_, _||_}
-use mathlib.Core.List.{List, [], _∷_, _++_, map}
+use mathlib.Core.Path.{_≡_, refl}
+use mathlib.Core.Bool.{true, false, _&&_}
+use mathlib.Core.List.{List, [], _∷_, _++_}
 use Prim.Native.Nat.{ℕ, zero, suc, _+_, _%_, _≤_, _<_}
 use native.Mathlib.Omega.{arith}
 use borrow.Author.Tests.{eq-eqb, ne-eqb, leb-true, le-leb}
@@ -10,46 +9,16 @@ use lib.Dec.{eqb, leb}
 use lib.ListN.{length, getD, set}
 use Rattle.protocol.specs.Records.{Rec, freeRec}
 use Rattle.protocol.specs.Table.{Table, recAt, putAt, countKind, slotWhere}
-use Rattle.protocol.specs.Answers.{Reply, replyAnswer}
+use Rattle.protocol.specs.Answers.{replyAnswer}
 use Rattle.protocol.specs.Steps.{Step, isNamed, slotNamed, slotFor, roomFor, add}
 use Rattle.protocol.specs.declared.Path.{Path}
 use Rattle.protocol.proofs.Laws.{both}
 use Rattle.protocol.proofs.Added.{Room, slot-chosen}
 use Rattle.account.specs.History.{Text}
-use Rattle.account.specs.Reading.{Item, Passed, Showed, Spent, Ended, Opened, Issued, Proxied, Burnt, Welcomed, CalledBack, Settled}
-use Rattle.account.specs.Account.{one, carriesTicket, accepts}
+use Rattle.account.specs.Reading.{Item}
+use Rattle.account.specs.Account.{one, carriesTicket, accepts, issuesIn, acceptsIn, sumIn}
 use Rattle.account.proofs.Base.{clash}
 use Rattle.account.proofs.Reached.{Reached}
-
-abbrev pub issuesIn : Item → ℕ
-issuesIn (Passed time) = 0
-issuesIn (Showed lt) = 0
-issuesIn (Spent lt) = 0
-issuesIn (Ended cookie) = 0
-issuesIn (Opened cookie user signed lt) = 0
-issuesIn (Issued cookie service ticket signed lt) = 1
-issuesIn (Proxied pgt target ticket) = 1
-issuesIn (Burnt ticket) = 0
-issuesIn (Welcomed v renew ticket service said) = 0
-issuesIn (CalledBack v renew ticket service url pgt iou serial) = 0
-issuesIn (Settled serial outcome said) = 0
-
-abbrev pub acceptsIn : Item → ℕ
-acceptsIn (Passed time) = 0
-acceptsIn (Showed lt) = 0
-acceptsIn (Spent lt) = 0
-acceptsIn (Ended cookie) = 0
-acceptsIn (Opened cookie user signed lt) = 0
-acceptsIn (Issued cookie service ticket signed lt) = 0
-acceptsIn (Proxied pgt target ticket) = 0
-acceptsIn (Burnt ticket) = 0
-acceptsIn (Welcomed v renew ticket service said) = 1
-acceptsIn (CalledBack v renew ticket service url pgt iou serial) = 1
-acceptsIn (Settled serial outcome said) = 0
-
-abbrev pub sumIn : (Item → ℕ) → List Item → ℕ
-sumIn f [] = 0
-sumIn f (i ∷ is) = f i + sumIn f is
 
 pub sum-append : (f : Item → ℕ) (a b : List Item) → sumIn f (a ++ b) ≡ sumIn f a + sumIn f b
 sum-append f [] b = omega arith

@@ -1,37 +1,33 @@
 -- Demand 3: the account of every run. Assumes nothing.
-use mathlib.Core.Path.{_≡_, refl, sym, ap, ap₂, _∙_, subst}
-use mathlib.Core.Logic.{_⊎_, inl, inr, _≢_}
-use mathlib.Core.Bool.{Bool, true, false, not, _&&_, _||_}
-use mathlib.Core.List.{List, [], _∷_, _++_, map, List·Memᴰ, List·Memᴰ·not-nil}
-use Prim.Native.Nat.{ℕ, zero, suc, _+_, _≤_, _<_}
+use mathlib.Core.Path.{_≡_, refl, sym, ap, ap₂, _∙_}
+use mathlib.Core.Logic.{_≢_}
+use mathlib.Core.Bool.{Bool, true, false, not, _&&_}
+use mathlib.Core.List.{List, [], _∷_, map, List·Memᴰ, Memᴰ·of-map}
+use Prim.Native.Nat.{ℕ, zero, suc, _+_, _≤_}
 use native.Mathlib.Omega.{arith}
-use borrow.Author.Tests.{eqb-true, lt-ltb}
+use borrow.Author.Tests.{eqb-true, ne-eqb}
 use lib.Dec.{eqb, ltb}
-use lib.ListN.{length, getD}
-use Rattle.protocol.specs.Bytes.{if, ascii, same}
+use Rattle.protocol.specs.Bytes.{same}
 use Rattle.protocol.specs.Tickets.{aLogin, aWaiting}
-use Rattle.protocol.specs.Records.{Rec, freeRec, live}
+use Rattle.protocol.specs.Records.{freeRec, live}
 use Rattle.protocol.specs.Table.{Table, decodeTable}
-use Rattle.protocol.specs.Answers.{successText}
-use Rattle.protocol.specs.Steps.{isPlain, takesProxies}
 use Rattle.protocol.specs.Calls.{formatOf}
 use Rattle.protocol.specs.declared.Validator.{Validator}
-use Rattle.protocol.proofs.Laws.{both, same-eq, same-refl}
-use Rattle.account.specs.History.{Text, Call, Event, tableAfter, historyOf}
+use Rattle.protocol.proofs.Laws.{both, same-eq}
+use Rattle.account.specs.History.{Text, Call, tableAfter, historyOf}
 use Rattle.account.specs.Reading.{Item, Passed, Showed, Spent, Ended, Opened, Issued, Proxied, Burnt, Welcomed, CalledBack, Settled, trailOf}
-use Rattle.account.specs.Notebook.{Fate, held, accepted, burnt, ended, expired, spent, Line, Notebook, isHeld, closeLine, closeAll, raiseLine, raiseAll, enter, pass, Look, found, nothing, look, isLine, isTicket, isTicketLine, isWaitingLine, ofSession, loginLine, sessionLine, lineUnder, enterUnder, note, notebook, tally, isAccepted, isBurnt, isEnded, isExpired}
+use Rattle.account.specs.Notebook.{Fate, held, accepted, burnt, ended, expired, spent, Line, Notebook, isHeld, closeLine, closeAll, raiseLine, raiseAll, enter, pass, found, look, isLine, isTicket, isTicketLine, isWaitingLine, loginLine, sessionLine, lineUnder, note, notebook, tally, isAccepted}
 use Rattle.account.specs.Truth.{Origin, originOf, calledOf}
-use Rattle.account.specs.Account.{one, wonHere, successes, waitingAmong, waitingIn, Rightful, Owed, Honest, Account}
-use Rattle.account.proofs.Base.{Case, is, isnt, case, clash, and-yes, when, sum}
-use Rattle.account.proofs.Sim.{Slot, noSlot, on, alive, lives, weight, weigh, heft, total, Sim}
-use Rattle.account.proofs.Edits.{alive-time, alive-is, close-name}
+use Rattle.account.specs.Account.{one, acceptances, successes, waitingAmong, waitingIn, Rightful, Owed, Honest, Account}
+use Rattle.account.proofs.Base.{Case, is, isnt, case, clash, and-yes, when}
+use Rattle.account.proofs.Sim.{Slot, on, alive, lives, weight, weigh}
+use Rattle.account.proofs.Edits.{raise-name, close-name}
 use Rattle.account.proofs.Look.{recOf, Tied, seen}
-use Rattle.account.proofs.Making.{New}
-use Rattle.account.proofs.Reached.{OwesIssue, RightLine, OwesWelcome, OwesCallback, OwesSettle, Owes, AllOwes, Reached}
-use Rattle.account.proofs.Counts.{issuesIn, acceptsIn, sumIn}
-use Rattle.account.proofs.Run.{Life, life, started}
+use Rattle.account.proofs.Reached.{RightLine, Owes, AllOwes}
+use Rattle.account.specs.Account.{issuesIn, acceptsIn, sumIn}
+use Rattle.account.proofs.Run.{life, started}
 use Rattle.account.proofs.Traced.{AllTraced, originIn, ticket-of, all-traced}
-use Rattle.account.proofs.Books.{claim, Owing, nil, just, pay, shrink, pay-win, pay-enter, re-wins, close-less, close-pays, wait-pays, raise-less, raise-pays, raise-name, tick1, tally-same, tally-plus, anyFate, close-all, close-acc, close-accepted, raise-kind, just-one, isSpent, close-unspent, close-other, fates, held-total}
+use Rattle.account.proofs.Books.{claim, turn, turn-pays, turn-less, Owing, nil, just, pay, shrink, pay-win, pay-enter, re-wins, close-less, close-pays, wait-pays, raise-less, raise-pays, tally-same, tally-plus, anyFate, close-all, close-acc, close-accepted, raise-kind, just-one, isSpent, close-unspent, close-other, fates, held-total}
 
 -- Every acceptance and every success answer is right
 
@@ -74,19 +70,20 @@ honest start (i ∷ older) o = (owed start i older (all-traced start older (o .1
 -- The books of a trail
 
 record Books (start : ℕ) (h : List Item) (book : List Line) : Type 0 where
-  owing : Owing book (λ (k : Text). successes start h k) nil
+  owing : Owing claim book (λ (k : Text). successes start h k) nil
+  taking : Owing turn book (λ (k : Text). acceptances h k) nil
   all : sumIn issuesIn h ≡ tally anyFate book
   acc : sumIn acceptsIn h ≡ tally isAccepted book
   unspent : tally isSpent book ≡ 0
 
 -- lines that are closed and lose nothing that counts
 module _ (start : ℕ) (i : Item) (older : List Item) (book : List Line) (b : Books start older book)
-    (quiet : (k : Text) → successes start (i ∷ older) k ≡ successes start older k) (no-issue : issuesIn i ≡ 0) (no-accept : acceptsIn i ≡ 0) where
-
+    (quiet : (k : Text) → successes start (i ∷ older) k ≡ successes start older k) (still : (k : Text) → acceptances (i ∷ older) k ≡ acceptances older k) (no-issue : issuesIn i ≡ 0) (no-accept : acceptsIn i ≡ 0) where
   close-books : (F : Fate) (q : Line → Bool) → isHeld F ≡ false → isAccepted F ≡ false → isSpent F ≡ false → Books start (i ∷ older) (map (closeLine F q) book)
   close-books F q hF nF sF =
       record {
-        owing = re-wins _ _ _ quiet (shrink book _ (closeLine F q) (close-less F q hF) (close-name F q) (b .owing));
+        owing = re-wins claim _ _ _ quiet (shrink claim book _ (closeLine F q) (close-less claim F q hF) (close-name F q) (b .owing));
+        taking = re-wins turn _ _ _ still (shrink turn book _ (closeLine F q) (close-less turn F q hF) (close-name F q) (b .taking));
         all = omega (arith, b .all, tally-same anyFate (closeLine F q) (close-all F q) book);
         acc = omega (arith, b .acc, tally-same isAccepted (closeLine F q) (close-acc F q nF) book);
         unspent = tally-same isSpent (closeLine F q) (close-unspent F q sF) book ∙ b .unspent;
@@ -96,7 +93,8 @@ module _ (start : ℕ) (i : Item) (older : List Item) (book : List Line) (b : Bo
   other-books : (F : Fate) (q : Line → Bool) → isHeld F ≡ false → ((e : Line) → q e ≡ true → isTicket (e .kind) ≡ false) → Books start (i ∷ older) (map (closeLine F q) book)
   other-books F q hF other =
       record {
-        owing = re-wins _ _ _ quiet (shrink book _ (closeLine F q) (close-less F q hF) (close-name F q) (b .owing));
+        owing = re-wins claim _ _ _ quiet (shrink claim book _ (closeLine F q) (close-less claim F q hF) (close-name F q) (b .owing));
+        taking = re-wins turn _ _ _ still (shrink turn book _ (closeLine F q) (close-less turn F q hF) (close-name F q) (b .taking));
         all = omega (arith, b .all, tally-same anyFate (closeLine F q) (close-all F q) book);
         acc = omega (arith, b .acc, tally-same isAccepted (closeLine F q) (close-other F q other isAccepted) book);
         unspent = tally-same isSpent (closeLine F q) (close-other F q other isSpent) book ∙ b .unspent;
@@ -107,7 +105,8 @@ module _ (start : ℕ) (i : Item) (older : List Item) (book : List Line) (b : Bo
   unfolding tally
   enter-books x new t w =
       record {
-        owing = re-wins _ _ _ quiet (pay-enter book _ nil x new (λ k. rw (t, w) (none (isHeld (x .fate)) k)) (b .owing));
+        owing = re-wins claim _ _ _ quiet (pay-enter claim book _ nil x new (λ k. rw (t, w) (none (isHeld (x .fate)) k)) (b .owing));
+        taking = re-wins turn _ _ _ still (pay-enter turn book _ nil x new (λ k. rw t (zero (isHeld (x .fate)) k)) (b .taking));
         all = rw t (omega (arith, b .all));
         acc = rw t (omega (arith, b .acc));
         unspent = rw t (omega (arith, b .unspent));
@@ -117,13 +116,18 @@ module _ (start : ℕ) (i : Item) (older : List Item) (book : List Line) (b : Bo
       none true k = omega arith
       none false k = omega arith
 
+      zero : (b : Bool) (k : Text) → when b 0 ≤ nil k + just (x .name) k
+      zero true k = omega arith
+      zero false k = omega arith
+
 -- a new ticket
-ticket-books : (start : ℕ) (i : Item) (older : List Item) (book : List Line) → Books start older book → ((k : Text) → successes start (i ∷ older) k ≡ successes start older k) → issuesIn i ≡ 1 → acceptsIn i ≡ 0
+ticket-books : (start : ℕ) (i : Item) (older : List Item) (book : List Line) → Books start older book → ((k : Text) → successes start (i ∷ older) k ≡ successes start older k) → ((k : Text) → acceptances (i ∷ older) k ≡ acceptances older k) → issuesIn i ≡ 1 → acceptsIn i ≡ 0
     → (x : Line) → ((e : Line) → List·Memᴰ e book → e .name ≢ x .name) → isTicket (x .kind) ≡ true → eqb (x .kind) aWaiting ≡ false → x .fate ≡ held → Books start (i ∷ older) (x ∷ book)
 unfolding tally
-ticket-books start i older book b quiet issue accept x new t w f =
+ticket-books start i older book b quiet still issue accept x new t w f =
     record {
-      owing = re-wins _ _ _ quiet (pay-enter book _ nil x new (λ k. rw (t, w, f) (omega arith)) (b .owing));
+      owing = re-wins claim _ _ _ quiet (pay-enter claim book _ nil x new (λ k. rw (t, w, f) (omega arith)) (b .owing));
+      taking = re-wins turn _ _ _ still (pay-enter turn book _ nil x new (λ k. rw (t, f) (omega arith)) (b .taking));
       all = rw t (omega (arith, b .all));
       acc = rw (t, f) (omega (arith, b .acc));
       unspent = rw (t, f) (omega (arith, b .unspent));
@@ -137,28 +141,39 @@ module _ (start : ℕ) (older : List Item) (book : List Line) (b : Books start o
   its-name : x .name ≡ ticket
   its-name = same-eq (x .name) ticket (both (isTicket (x .kind)) (same (x .name) ticket) t .1)
 
-  accept-owing : Owing (map (closeLine accepted (isTicketLine ticket)) book) (λ (k : Text). successes start older k) (just ticket)
+  -- what it gives up is by its text
+  by-text : (k : Text) (a b : ℕ) → a + just (x .name) k ≤ b → a + just ticket k ≤ b
+  by-text k a b z = let y : just (x .name) k ≡ just ticket k = ap (λ (y : Text). just y k) its-name in omega arith
+
+  accept-owing : Owing claim (map (closeLine accepted (isTicketLine ticket)) book) (λ (k : Text). successes start older k) (just ticket)
   accept-owing =
-      pay book _ (closeLine accepted (isTicketLine ticket)) (just ticket) (close-less accepted (isTicketLine ticket) refl) (close-name accepted (isTicketLine ticket)) x m
-        (λ k.
-          let z = close-pays accepted (isTicketLine ticket) refl x h t is-ticket k in
-          let n : just (x .name) k ≡ just ticket k = ap (λ (y : Text). just y k) its-name in
-          omega arith)
-        (b .owing)
+      pay claim book _ (closeLine accepted (isTicketLine ticket)) (just ticket) (close-less claim accepted (isTicketLine ticket) refl) (close-name accepted (isTicketLine ticket)) x m
+      (λ k. by-text k _ _ (close-pays accepted (isTicketLine ticket) refl x h t is-ticket k))
+      (b .owing)
+
+  accept-taking : Owing turn (map (closeLine accepted (isTicketLine ticket)) book) (λ (k : Text). acceptances older k) (just ticket)
+  accept-taking =
+      pay turn book _ (closeLine accepted (isTicketLine ticket)) (just ticket) (close-less turn accepted (isTicketLine ticket) refl) (close-name accepted (isTicketLine ticket)) x m
+      (λ k. by-text k _ _ (turn-pays accepted (isTicketLine ticket) refl x h t is-ticket k))
+      (b .taking)
 
   accept-all : sumIn issuesIn older ≡ tally anyFate (map (closeLine accepted (isTicketLine ticket)) book)
   accept-all = b .all ∙ sym (tally-same anyFate (closeLine accepted (isTicketLine ticket)) (close-all accepted (isTicketLine ticket)) book)
 
   accept-acc : suc (sumIn acceptsIn older) ≡ tally isAccepted (map (closeLine accepted (isTicketLine ticket)) book)
   accept-acc =
-      omega (arith, b .acc, tally-plus isAccepted (closeLine accepted (isTicketLine ticket)) (λ e. when (isTicket (e .kind) && isTicketLine ticket e) 1) (close-accepted (isTicketLine ticket)) book,
-        just-one book _ (b .owing) ticket x m h t)
+      omega (
+        arith,
+        b .acc,
+        tally-plus isAccepted (closeLine accepted (isTicketLine ticket)) (λ e. when (isTicket (e .kind) && isTicketLine ticket e) 1) (close-accepted (isTicketLine ticket)) book,
+        just-one book _ (b .owing) ticket x m h t,
+      )
 
   accept-unspent : tally isSpent (map (closeLine accepted (isTicketLine ticket)) book) ≡ 0
   accept-unspent = tally-same isSpent (closeLine accepted (isTicketLine ticket)) (close-unspent accepted (isTicketLine ticket) refl) book ∙ b .unspent
 
 new-closed : (F : Fate) (q : Line → Bool) (book : List Line) (x : Text) → ((e : Line) → List·Memᴰ e book → e .name ≢ x) → (e : Line) → List·Memᴰ e (map (closeLine F q) book) → e .name ≢ x
-new-closed F q book x new e m = go (mathlib.Core.List.Memᴰ·of-map (closeLine F q) book m)
+new-closed F q book x new e m = go (Memᴰ·of-map (closeLine F q) book m)
   where
     go : (a : Line) × List·Memᴰ a book × (closeLine F q a ≡ e) → e .name ≢ x
     go (a, ma, ea) = rw (← ea, close-name F q a) (new a ma)
@@ -170,88 +185,91 @@ login-other lt e z = let k : e .kind ≡ 1 = eqb-true (e .kind) 1 (both (eqb (e 
 waiting-other : (serial : ℕ) (e : Line) → isWaitingLine serial e ≡ true → isTicket (e .kind) ≡ false
 waiting-other serial e z = let k : e .kind ≡ 5 = eqb-true (e .kind) 5 (both (eqb (e .kind) aWaiting) (eqb (e .ref) serial) z .0) in rw k
 
+-- a success counts where it is owed
+ones : (z : Bool) (n : ℕ) → one z + n ≡ when z 1 + n
+ones true n = refl
+ones false n = refl
+
 step-books : (start : ℕ) (i : Item) (older : List Item) → Owes start i older → AllTraced start older (notebook start older .book) → Books start older (notebook start older .book)
     → Books start (i ∷ older) (note i (notebook start older) .book)
-unfolding note pass closeAll raiseAll enter successes tally
-step-books start (Passed time) older o all b = close-books start (Passed time) older _ b (λ k. omega arith) refl refl expired _ refl refl refl
-step-books start (Showed lt) older o all b = enter-books start (Showed lt) older _ b (λ k. omega arith) refl refl (loginLine lt (notebook start older .clock)) o refl refl
-step-books start (Spent lt) older o all b = other-books start (Spent lt) older _ b (λ k. omega arith) refl refl spent (isLine aLogin lt) refl (login-other lt)
-step-books start (Ended cookie) older o all b = close-books start (Ended cookie) older _ b (λ k. omega arith) refl refl ended _ refl refl refl
-step-books start (Opened cookie user signed lt) older o all b = enter-books start (Opened cookie user signed lt) older _ b (λ k. omega arith) refl refl (sessionLine cookie user (notebook start older .clock)) (o .new) refl refl
+unfolding note pass closeAll raiseAll enter successes acceptances tally
+step-books start (Passed time) older o all b = close-books start (Passed time) older _ b (λ k. omega arith) (λ k. omega arith) refl refl expired _ refl refl refl
+step-books start (Showed lt) older o all b = enter-books start (Showed lt) older _ b (λ k. omega arith) (λ k. omega arith) refl refl (loginLine lt (notebook start older .clock)) o refl refl
+step-books start (Spent lt) older o all b = other-books start (Spent lt) older _ b (λ k. omega arith) (λ k. omega arith) refl refl spent (isLine aLogin lt) refl (login-other lt)
+step-books start (Ended cookie) older o all b = close-books start (Ended cookie) older _ b (λ k. omega arith) (λ k. omega arith) refl refl ended _ refl refl refl
+step-books start (Opened cookie user signed lt) older o all b = enter-books start (Opened cookie user signed lt) older _ b (λ k. omega arith) (λ k. omega arith) refl refl (sessionLine cookie user (notebook start older .clock)) (o .new) refl refl
 step-books start (Issued cookie service ticket signed lt) older o all b =
     rw (o .line)
-      (ticket-books start (Issued cookie service ticket signed lt) older _ b (λ k. omega arith) refl refl (lineUnder 3 ticket 0 service [] signed [] [] (notebook start older .clock) (o .source)) (o .new) refl refl refl)
+    (ticket-books start (Issued cookie service ticket signed lt) older _ b (λ k. omega arith) (λ k. omega arith) refl refl (lineUnder 3 ticket 0 service [] signed [] [] (notebook start older .clock) (o .source)) (o .new) refl refl refl)
 step-books start (Proxied pgt target ticket) older o all b =
     rw (o .line)
-      (ticket-books start (Proxied pgt target ticket) older _ b (λ k. omega arith) refl refl (lineUnder 4 ticket 0 target (o .source .text ∷ o .source .chain) false [] [] (notebook start older .clock) (o .source))
-        (o .new) refl refl refl)
-step-books start (Burnt ticket) older o all b = close-books start (Burnt ticket) older _ b (λ k. omega arith) refl refl burnt _ refl refl refl
+    (ticket-books start (Proxied pgt target ticket) older _ b (λ k. omega arith) (λ k. omega arith) refl refl (lineUnder 4 ticket 0 target (o .source .text ∷ o .source .chain) false [] [] (notebook start older .clock) (o .source))
+    (o .new) refl refl refl)
+step-books start (Burnt ticket) older o all b = close-books start (Burnt ticket) older _ b (λ k. omega arith) (λ k. omega arith) refl refl burnt _ refl refl refl
 step-books start (Welcomed v renew ticket service said) older o all b =
     let s = seen (isTicketLine ticket) (notebook start older .book) (o .ticket-line) (o .line) in
     record {
-      owing = re-wins _ _ _ (λ k. ones (same ticket k) (successes start older k)) (pay-win _ _ (just ticket) (accept-owing start older _ b ticket (o .ticket-line) (s .0) (s .1) (s .2)));
+      owing = re-wins claim _ _ _ (λ k. ones (same ticket k) (successes start older k)) (pay-win claim _ _ (just ticket) (accept-owing start older _ b ticket (o .ticket-line) (s .0) (s .1) (s .2)));
+      taking = re-wins turn _ _ _ (λ k. ones (same ticket k) (acceptances older k)) (pay-win turn _ _ (just ticket) (accept-taking start older _ b ticket (o .ticket-line) (s .0) (s .1) (s .2)));
       all = omega (arith, accept-all start older _ b ticket (o .ticket-line) (s .0) (s .1) (s .2));
       acc = omega (arith, accept-acc start older _ b ticket (o .ticket-line) (s .0) (s .1) (s .2));
       unspent = accept-unspent start older _ b ticket (o .ticket-line) (s .0) (s .1) (s .2);
     }
-  where
-    ones : (z : Bool) (n : ℕ) → one z + n ≡ when z 1 + n
-    ones true n = refl
-    ones false n = refl
 step-books start (CalledBack v renew ticket service url pgt iou serial) older o all b =
     let s = seen (isTicketLine ticket) (notebook start older .book) (o .ticket-line) (o .line) in
     let n : o .ticket-line .name ≡ ticket = its-name start older _ b ticket (o .ticket-line) (s .0) (s .1) (s .2) in
     let x : Line = lineUnder 5 pgt serial url (o .ticket-line .chain) false (o .ticket-line .name) iou (notebook start older .clock) (o .ticket-line) in
     rw (o .line)
-      (record {
-        owing =
-          re-wins _ _ _ (λ k. omega arith)
-            (pay-enter _ _ (just ticket) x (new-closed accepted (isTicketLine ticket) (notebook start older .book) pgt (o .new)) (λ k. rw n (omega arith))
-              (accept-owing start older _ b ticket (o .ticket-line) (s .0) (s .1) (s .2)));
-        all = omega (arith, accept-all start older _ b ticket (o .ticket-line) (s .0) (s .1) (s .2));
-        acc = omega (arith, accept-acc start older _ b ticket (o .ticket-line) (s .0) (s .1) (s .2));
-        unspent = omega (arith, accept-unspent start older _ b ticket (o .ticket-line) (s .0) (s .1) (s .2));
-      })
+    (record {
+      owing =
+          re-wins claim _ _ _ (λ k. omega arith)
+          (pay-enter claim _ _ (just ticket) x (new-closed accepted (isTicketLine ticket) (notebook start older .book) pgt (o .new)) (λ k. rw n (omega arith))
+          (accept-owing start older _ b ticket (o .ticket-line) (s .0) (s .1) (s .2)));
+      taking =
+          pay-enter turn _ _ nil x (new-closed accepted (isTicketLine ticket) (notebook start older .book) pgt (o .new)) (λ k. omega arith)
+          (re-wins turn _ _ _ (λ k. ones (same ticket k) (acceptances older k)) (pay-win turn _ _ (just ticket) (accept-taking start older _ b ticket (o .ticket-line) (s .0) (s .1) (s .2))));
+      all = omega (arith, accept-all start older _ b ticket (o .ticket-line) (s .0) (s .1) (s .2));
+      acc = omega (arith, accept-acc start older _ b ticket (o .ticket-line) (s .0) (s .1) (s .2));
+      unspent = omega (arith, accept-unspent start older _ b ticket (o .ticket-line) (s .0) (s .1) (s .2));
+    })
 step-books start (Settled serial true said) older o all b =
     let s = seen (isWaitingLine serial) (notebook start older .book) (o .waiting-line) (o .line) in
     let w = both (eqb (o .waiting-line .kind) aWaiting) (eqb (o .waiting-line .ref) serial) (s .2) in
     let c = waiting-of start older all serial (o .waiting-line) (o .line) in
     record {
       owing =
-        re-wins _ _ _ (λ k. rw c (ones (same (o .waiting-line .origin) k) (successes start older k)))
-          (pay-win _ _ (just (o .waiting-line .origin))
-            (pay (notebook start older .book) _ (raiseLine (isWaitingLine serial)) (just (o .waiting-line .origin)) (raise-less (isWaitingLine serial)) (raise-name (isWaitingLine serial)) (o .waiting-line) (s .0)
-              (raise-pays (isWaitingLine serial) (o .waiting-line) (s .1) (s .2) (w .0)) (b .owing)));
+          re-wins claim _ _ _ (λ k. rw c (ones (same (o .waiting-line .origin) k) (successes start older k)))
+          (pay-win claim _ _ (just (o .waiting-line .origin))
+          (pay claim (notebook start older .book) _ (raiseLine (isWaitingLine serial)) (just (o .waiting-line .origin)) (raise-less (isWaitingLine serial)) (raise-name (isWaitingLine serial)) (o .waiting-line) (s .0)
+          (raise-pays (isWaitingLine serial) (o .waiting-line) (s .1) (s .2) (w .0)) (b .owing)));
+      taking =
+          re-wins turn _ _ _ (λ k. omega arith)
+          (shrink turn (notebook start older .book) _ (raiseLine (isWaitingLine serial)) (turn-less (isWaitingLine serial)) (raise-name (isWaitingLine serial)) (b .taking));
       all = omega (arith, b .all, tally-same anyFate (raiseLine (isWaitingLine serial)) (raise-kind serial anyFate) (notebook start older .book));
       acc = omega (arith, b .acc, tally-same isAccepted (raiseLine (isWaitingLine serial)) (raise-kind serial isAccepted) (notebook start older .book));
       unspent = tally-same isSpent (raiseLine (isWaitingLine serial)) (raise-kind serial isSpent) (notebook start older .book) ∙ b .unspent;
     }
-  where
-    ones : (z : Bool) (n : ℕ) → one z + n ≡ when z 1 + n
-    ones true n = refl
-    ones false n = refl
 step-books start (Settled serial false said) older o all b =
     let s = seen (isWaitingLine serial) (notebook start older .book) (o .waiting-line) (o .line) in
     let w = both (eqb (o .waiting-line .kind) aWaiting) (eqb (o .waiting-line .ref) serial) (s .2) in
     let c = waiting-of start older all serial (o .waiting-line) (o .line) in
     record {
       owing =
-        re-wins _ _ _ (λ k. rw c (ones (same (o .waiting-line .origin) k) (successes start older k)))
-          (pay-win _ _ (just (o .waiting-line .origin))
-            (pay (notebook start older .book) _ (closeLine spent (isWaitingLine serial)) (just (o .waiting-line .origin)) (close-less spent (isWaitingLine serial) refl) (close-name spent (isWaitingLine serial)) (o .waiting-line) (s .0)
-              (wait-pays spent (isWaitingLine serial) refl (o .waiting-line) (s .1) (s .2) (w .0)) (b .owing)));
+          re-wins claim _ _ _ (λ k. rw c (ones (same (o .waiting-line .origin) k) (successes start older k)))
+          (pay-win claim _ _ (just (o .waiting-line .origin))
+          (pay claim (notebook start older .book) _ (closeLine spent (isWaitingLine serial)) (just (o .waiting-line .origin)) (close-less claim spent (isWaitingLine serial) refl) (close-name spent (isWaitingLine serial)) (o .waiting-line) (s .0)
+          (wait-pays spent (isWaitingLine serial) refl (o .waiting-line) (s .1) (s .2) (w .0)) (b .owing)));
+      taking =
+          re-wins turn _ _ _ (λ k. omega arith)
+          (shrink turn (notebook start older .book) _ (closeLine spent (isWaitingLine serial)) (close-less turn spent (isWaitingLine serial) refl) (close-name spent (isWaitingLine serial)) (b .taking));
       all = omega (arith, b .all, tally-same anyFate (closeLine spent (isWaitingLine serial)) (close-all spent (isWaitingLine serial)) (notebook start older .book));
       acc = omega (arith, b .acc, tally-same isAccepted (closeLine spent (isWaitingLine serial)) (close-other spent (isWaitingLine serial) (waiting-other serial) isAccepted) (notebook start older .book));
       unspent = tally-same isSpent (closeLine spent (isWaitingLine serial)) (close-other spent (isWaitingLine serial) (waiting-other serial) isSpent) (notebook start older .book) ∙ b .unspent;
     }
-  where
-    ones : (z : Bool) (n : ℕ) → one z + n ≡ when z 1 + n
-    ones true n = refl
-    ones false n = refl
 
 books : (start : ℕ) (h : List Item) → AllOwes start h → Books start h (notebook start h .book)
-unfolding notebook successes tally
-books start [] o = record { owing = record { most = λ k. omega arith; far = λ k f. refl }; all = refl; acc = refl; unspent = refl }
+unfolding notebook successes acceptances tally
+books start [] o = record { owing = record { most = λ k. omega arith; far = λ k f. refl }; taking = record { most = λ k. omega arith; far = λ k f. refl }; all = refl; acc = refl; unspent = refl }
 books start (i ∷ older) o = step-books start i older (o .0) (all-traced start older (o .1)) (books start older (o .1))
 
 -- The held tickets are the live records of kind 3 and 4
@@ -261,11 +279,12 @@ unfolding waitingAmong
 waiting-weigh c [] h = refl
 waiting-weigh c (a ∷ A) h = ap₂ _+_ (go (case (alive c (a .r)))) (waiting-weigh c A (λ i. h (suc i)))
   where
-    ones : (z : Bool) → when z 1 ≡ one z
-    ones true = refl
-    ones false = refl
+    same-one : (z : Bool) → when z 1 ≡ one z
+    same-one true = refl
+    same-one false = refl
+
     go : Case (alive c (a .r)) → weight c (λ e. when (isTicket (e .kind)) 1) a ≡ one (isTicket (a .r .kind) && live c (a .r))
-    go (is z) = rw (z, h 0 z, both (not (eqb (a .r .kind) 0)) (ltb c (a .r .expiry)) z .1, and-yes (isTicket (a .r .kind))) (ones (isTicket (a .r .kind)))
+    go (is z) = rw (z, h 0 z, both (not (eqb (a .r .kind) 0)) (ltb c (a .r .expiry)) z .1, and-yes (isTicket (a .r .kind))) (same-one (isTicket (a .r .kind)))
     go (isnt z) = rw z (dead (case (isTicket (a .r .kind))))
       where
         dead : Case (isTicket (a .r .kind)) → 0 ≡ one (isTicket (a .r .kind) && live c (a .r))
@@ -273,7 +292,8 @@ waiting-weigh c (a ∷ A) h = ap₂ _+_ (go (case (alive c (a .r)))) (waiting-we
           where
             some : (k : ℕ) → isTicket k ≡ true → eqb k 0 ≡ false
             some zero t = absurd (clash t refl)
-            some (suc k) t = borrow.Author.Tests.ne-eqb (suc k) 0 (λ e. omega arith)
+            some (suc k) t = ne-eqb (suc k) 0 (λ e. omega arith)
+
             late : Case (ltb c (a .r .expiry)) → 0 ≡ one (ltb c (a .r .expiry))
             late (is l) = absurd (clash {b = alive c (a .r)} (rw (some (a .r .kind) t, l)) z)
             late (isnt l) = rw l
@@ -297,7 +317,10 @@ account old time e calls =
     let f = fates (notebook time h .book) in
     let w = held-waiting (notebook time h) (decodeTable (tableAfter (formatOf old time .table) calls)) (l .reached .tied) in
     record {
+      issues-read = l .issues;
+      accepts-read = l .accepts-eq;
       balance = omega (arith, l .issues, l .accepts-eq, b .all, b .acc, b .unspent);
+      accepted-once = λ x. omega (arith, b .taking .most x);
       once = λ x. omega (arith, b .owing .most x);
       honest = honest time h (l .reached .paid);
     }

@@ -1,24 +1,23 @@
 -- The kinds of edit keep the link: records leave their slots, a record is put into a free slot, a waiting grant changes in place, the clock moves.
 -- Assumes nothing.
-use mathlib.Core.Path.{_≡_, refl, sym, ap, ap₂, _∙_, subst}
+use mathlib.Core.Path.{_≡_, refl, sym, ap, _∙_}
 use mathlib.Core.Logic.{_⊎_, inl, inr, _≢_}
-use mathlib.Core.Bool.{Bool, true, false, not, _&&_, _||_}
-use mathlib.Core.List.{List, [], _∷_, _++_, map, List·Memᴰ, List·Memᴰ·cases-cons, List·Memᴰ·not-nil, Memᴰ·of-map}
-use Prim.Native.Nat.{ℕ, zero, suc, _+_, _≤_, _<_, min, max}
+use mathlib.Core.Bool.{Bool, true, false, not, _&&_}
+use mathlib.Core.List.{List, _∷_, List·Memᴰ, List·Memᴰ·cases-cons}
+use Prim.Native.Nat.{ℕ, zero, suc, _+_, _≤_, _<_}
 use native.Mathlib.Omega.{arith}
 use native.Mathlib.Decide.{ℕ-discrete}
-use borrow.Author.Tests.{eq-eqb, ne-eqb, eqb-true, eqb-false, leb-true, le-leb, lt-leb, ltb-true, ltb-false, lt-ltb, le-ltb, not-true, not-false}
-use lib.ListN.{length, getD, set, List·getD-map, length-map, length-set}
+use borrow.Author.Tests.{ne-eqb, eqb-false, lt-leb, ltb-true, lt-ltb, not-true, leb-false}
+use lib.ListN.{length, set, length-set}
 use lib.Seq.{getD-set-same, getD-set-other}
 use lib.Dec.{leb, ltb, eqb}
-use Rattle.protocol.specs.Bytes.{if, same}
-use Rattle.protocol.specs.Tickets.{ticketText, iouText}
-use Rattle.protocol.specs.Records.{Rec, freeRec, nameOf}
-use Rattle.protocol.proofs.Laws.{both, same-eq, same-refl}
+use Rattle.protocol.specs.Bytes.{if}
+use Rattle.protocol.specs.Records.{Rec, nameOf}
+use Rattle.protocol.proofs.Laws.{both}
 use Rattle.account.specs.History.{Text}
-use Rattle.account.specs.Notebook.{Fate, held, expired, Line, Notebook, isHeld, close, closeLine, closeAll, enter}
-use Rattle.account.proofs.Base.{Case, is, isnt, case, clash, untrue, when, sum, sum-set, name-serial}
-use Rattle.account.proofs.Sim.{Slot, noLine, noSlot, on, alive, lives, weight, weigh, heft, total, Above, Up, upOf, deep, Under, Placed, login, session, below, Good, Before, Sim, good-move, Turn, stays, goes, never, through, sim-through}
+use Rattle.account.specs.Notebook.{Fate, expired, Line, Notebook, isHeld, close, closeLine, closeAll, raise, raiseLine, enter}
+use Rattle.account.proofs.Base.{Case, is, isnt, case, clash, sum-set}
+use Rattle.account.proofs.Sim.{Slot, noSlot, on, alive, lives, weight, weigh, heft, total, Up, upOf, Under, Placed, login, session, below, Good, Before, Sim, good-move, Turn, stays, goes, never, through, sim-through}
 
 -- what lives is not free and not expired, and the other way
 pub alive-kind : (c : ℕ) (r : Rec) → alive c r ≡ true → 1 ≤ r .kind
@@ -83,13 +82,27 @@ close-ref F q e = go (isHeld (e .fate) && q e)
     go true = refl
     go false = refl
 
+-- nor does raising
+pub raise-name : (q : Line → Bool) (e : Line) → raiseLine q e .name ≡ e .name
+raise-name q e = go (isHeld (e .fate) && q e)
+  where
+    go : (b : Bool) → if b (raise e) e .name ≡ e .name
+    go true = refl
+    go false = refl
+
+pub raise-ref : (q : Line → Bool) (e : Line) → raiseLine q e .ref ≡ e .ref
+raise-ref q e = go (isHeld (e .fate) && q e)
+  where
+    go : (b : Bool) → if b (raise e) e .ref ≡ e .ref
+    go true = refl
+    go false = refl
+
 -- Records leave their slots: those that p picks, whose lines q picks; what stays has its session and parent still
 module _ (L : Notebook) (A B : List Slot) (n : ℕ) (S : Sim L A n) (p : ℕ → Bool) (q : Line → Bool) (F : Fate) (hF : isHeld F ≡ false) (len : length B ≡ length A)
     (keep : (i : ℕ) → p i ≡ false → on B i ≡ on A i) (gone : (i : ℕ) → p i ≡ true → lives (L .clock) B i ≡ false)
     (agree : (i : ℕ) → lives (L .clock) A i ≡ true → q (on A i .e) ≡ p i)
     (homes : (i : ℕ) → lives (L .clock) A i ≡ true → Under A (on A i) → p i ≡ false → p (on A i .r .session) ≡ false)
     (parents : (i k : ℕ) → lives (L .clock) A i ≡ true → Under A (on A i) → upOf (on A i .r) ≡ suc k → p i ≡ false → p (suc k) ≡ false) where
-
   drop-turn : (i : ℕ) → Turn (L .clock) (L .clock) A B (closeLine F q) i
   drop-turn i = go (case (lives (L .clock) A i)) (case (p i))
     where
@@ -109,10 +122,10 @@ module _ (L : Notebook) (A B : List Slot) (n : ℕ) (S : Sim L A n) (p : ℕ →
           let l : lives (L .clock) A i ≡ true = rw (keep i z) at b in
           let g = S .good i l in
           rw (keep i z)
-            (good-move A B n n (on A i) (omega arith)
-              (λ h. keep _ (homes i l (under-of A (on A i) (g .placed) h) z))
-              (λ h k e. keep (suc k) (parents i k l (under-of A (on A i) (g .placed) h) e z))
-              g)
+          (good-move A B n n (on A i) (omega arith)
+          (λ h. keep _ (homes i l (under-of A (on A i) (g .placed) h) z))
+          (λ h k e. keep (suc k) (parents i k l (under-of A (on A i) (g .placed) h) e z))
+          g)
 
   pub sim-drop : Sim (closeAll F q L) B n
   unfolding closeAll
@@ -121,7 +134,6 @@ module _ (L : Notebook) (A B : List Slot) (n : ℕ) (S : Sim L A n) (p : ℕ →
 -- A record is put into a slot where none lives
 module _ (L : Notebook) (A : List Slot) (n : ℕ) (S : Sim L A n) (i : ℕ) (lt : i < length A) (z : lives (L .clock) A i ≡ false)
     (a : Slot) (la : alive (L .clock) (a .r) ≡ true) (sa : a .r .serial ≡ n) (ra : a .e .ref ≤ n) (next : n < 4294967296) (ga : Good A (suc n) a) where
-
   P : List Slot
   P = set A i a
 
@@ -156,9 +168,9 @@ module _ (L : Notebook) (A : List Slot) (n : ℕ) (S : Sim L A n) (i : ℕ) (lt 
   put-move : (m : ℕ) (b : Slot) → m ≤ suc n → L .clock < b .r .expiry → Good A m b → Good P (suc n) b
   put-move m b le t g =
       good-move A P m (suc n) b le
-        (λ h. there _ (apart _ (home-lives (L .clock) A b (under-of A b (g .placed) h) t)))
-        (λ h k e. there (suc k) (apart (suc k) (parent-lives (L .clock) A b k (under-of A b (g .placed) h) t e)))
-        g
+      (λ h. there _ (apart _ (home-lives (L .clock) A b (under-of A b (g .placed) h) t)))
+      (λ h k e. there (suc k) (apart (suc k) (parent-lives (L .clock) A b k (under-of A b (g .placed) h) t e)))
+      g
 
   put-back : (j : ℕ) → j ≢ i → lives (L .clock) P j ≡ true → lives (L .clock) A j ≡ true
   put-back j ne l = rw (there j ne) at l
@@ -178,6 +190,7 @@ module _ (L : Notebook) (A : List Slot) (n : ℕ) (S : Sim L A n) (i : ℕ) (lt 
     where
       at-i : (j : ℕ) → j ≡ i → on P j .r .serial ≡ n
       at-i j ej = rw (ej, here) sa
+
       go : Dec (j ≡ i) → Dec (k ≡ i) → j ≡ k
       go (yes ej) (yes ek) = ej ∙ sym ek
       go (yes ej) (no nk) = absurd (omega (arith, at-i j ej, put-serial k nk lk))
@@ -220,7 +233,6 @@ module _ (L : Notebook) (A : List Slot) (n : ℕ) (S : Sim L A n) (i : ℕ) (lt 
     (g : Line → Line) (closed : (e : Line) → isHeld (e .fate) ≡ false → isHeld (g e .fate) ≡ false)
     (new : g (on A i .e) ≡ a .e) (others : (j : ℕ) → lives (L .clock) A j ≡ true → j ≢ i → g (on A j .e) ≡ on A j .e)
     (names : (e : Line) → g e .name ≡ e .name) (numbers : (e : Line) → g e .ref ≡ e .ref) (ga : Good A n a) where
-
   C : List Slot
   C = set A i a
 
@@ -243,9 +255,9 @@ module _ (L : Notebook) (A : List Slot) (n : ℕ) (S : Sim L A n) (i : ℕ) (lt 
   change-move : (b : Slot) → Good A n b → Good C n b
   change-move b g =
       good-move A C n n b (omega arith)
-        (λ h. that _ (λ (e : b .r .session ≡ i). let w : on A i .r .kind ≡ 2 = rw e at (under-of A b (g .placed) h .home) in omega arith))
-        (λ h k e. that (suc k) (λ (x : suc k ≡ i). let w : on A i .r .kind ≡ 6 = rw x at (up-grants A _ _ _ k (under-of A b (g .placed) h .line) e .0) in omega arith))
-        g
+      (λ h. that _ (λ (e : b .r .session ≡ i). let w : on A i .r .kind ≡ 2 = rw e at (under-of A b (g .placed) h .home) in omega arith))
+      (λ h k e. that (suc k) (λ (x : suc k ≡ i). let w : on A i .r .kind ≡ 6 = rw x at (up-grants A _ _ _ k (under-of A b (g .placed) h .line) e .0) in omega arith))
+      g
 
   change-good : (j : ℕ) → lives (L .clock) C j ≡ true → Good C n (on C j)
   change-good j l = go (ℕ-discrete j i)
@@ -260,7 +272,6 @@ module _ (L : Notebook) (A : List Slot) (n : ℕ) (S : Sim L A n) (i : ℕ) (lt 
 
 -- The clock moves: nothing in the slots changes, and what has expired is dead
 module _ (L : Notebook) (A : List Slot) (n : ℕ) (S : Sim L A n) (d : ℕ) (le : L .clock ≤ d) where
-
   lived : (i : ℕ) → lives d A i ≡ true → lives (L .clock) A i ≡ true
   lived i l = alive-is (L .clock) (on A i .r) (alive-kind d (on A i .r) l) (omega (arith, alive-time d (on A i .r) l))
 
@@ -279,11 +290,11 @@ module _ (L : Notebook) (A : List Slot) (n : ℕ) (S : Sim L A n) (d : ℕ) (le 
         where
           late : Case (leb (on A i .r .expiry) d) → leb (on A i .r .expiry) d ≡ true
           late (is z) = z
-          late (isnt z) = absurd (clash (alive-is d (on A i .r) (alive-kind (L .clock) (on A i .r) l) (borrow.Author.Tests.leb-false (on A i .r .expiry) d z)) m)
+          late (isnt z) = absurd (clash (alive-is d (on A i .r) (alive-kind (L .clock) (on A i .r) l) (leb-false (on A i .r .expiry) d z)) m)
       go (isnt l) (is m) = absurd (clash (lived i m) l)
       go (isnt l) (isnt m) = never l m
 
   pub sim-time : Sim (through d (closeLine expired (λ (e : Line). leb (e .expiry) d)) L) A n
   sim-time =
       sim-through L d A A n S (closeLine expired (λ (e : Line). leb (e .expiry) d)) (λ e z. rw (z, z)) (close-name expired _) (close-ref expired _) refl time-turn
-        (λ i l. S .good i (lived i l))
+      (λ i l. S .good i (lived i l))

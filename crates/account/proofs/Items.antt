@@ -1,34 +1,34 @@
 -- One thing said beside one edit of the table: each keeps the table at the trail. Assumes nothing.
-use mathlib.Core.Path.{_≡_, refl, sym, ap, ap₂, _∙_, subst}
-use mathlib.Core.Logic.{_≢_}
-use mathlib.Core.Bool.{Bool, true, false, not, _&&_, _||_}
-use mathlib.Core.List.{List, [], _∷_, _++_, map}
-use Prim.Native.Nat.{ℕ, zero, suc, _+_, _≤_, _<_, min, max}
+use mathlib.Core.Path.{_≡_, refl, ap, _∙_}
+use mathlib.Core.Bool.{Bool, true, false, not}
+use mathlib.Core.List.{List, [], _∷_}
+use Prim.Native.Nat.{ℕ, zero, suc, _+_, _≤_, _<_}
 use native.Mathlib.Omega.{arith}
-use borrow.Author.Tests.{eq-eqb, ne-eqb, eqb-true, eqb-false}
-use lib.ListN.{length, getD, set, List·getD-map}
+use borrow.Author.Tests.{lt-ltb, eqb-true}
+use lib.ListN.{getD, set, List·getD-map}
 use lib.Dec.{eqb}
 use Rattle.protocol.specs.Bytes.{if, ascii, same}
-use Rattle.protocol.specs.Tickets.{iouText, iouFrom, aLogin, aSession, aService, aProxy, aWaiting, aGrant, lifetime}
+use Rattle.protocol.specs.Tickets.{iouText, iouFrom, aLogin, aSession, aService, aProxy, aWaiting, aGrant}
 use Rattle.protocol.specs.Records.{Rec, freeRec, nameOf}
-use Rattle.protocol.specs.Table.{Table, tableOf, recAt, putAt}
+use Rattle.protocol.specs.Table.{Table, recAt, putAt}
 use Rattle.protocol.specs.Answers.{successText}
-use Rattle.protocol.specs.Steps.{tick, put, remove, endSession, isNamed, slotNamed, sessionOf, ticketSlot, waitingSlot, slotFor, newRec, add, chainOf, proxyParent, granted, isPlain, takesProxies}
+use Rattle.protocol.specs.Steps.{tick, put, remove, endSession, isNamed, slotNamed, sessionOf, ticketSlot, waitingSlot, newRec, add, chainOf, proxyParent, granted, isPlain, takesProxies}
 use Rattle.protocol.specs.declared.Validator.{Validator}
-use Rattle.protocol.proofs.Laws.{both, same-eq, same-refl}
+use Rattle.protocol.proofs.Laws.{both, same-eq}
 use Rattle.protocol.proofs.Added.{Room}
 use Rattle.account.specs.History.{Text}
 use Rattle.account.specs.Reading.{Item, Passed, Showed, Spent, Ended, Opened, Issued, Proxied, Burnt, Welcomed, CalledBack, Settled}
-use Rattle.account.specs.Notebook.{Fate, burnt, accepted, spent, ended, Line, Notebook, isHeld, closeAll, enter, Look, found, nothing, look, isLine, isTicket, isTicketLine, isWaitingLine, enterUnder, lineUnder, note, notebook}
-use Rattle.account.specs.Truth.{isFound, loginLive, spentLive}
+use Rattle.account.specs.Notebook.{Line, Fate, burnt, accepted, spent, Notebook, isHeld, closeAll, isLine, isTicket, isTicketLine, isWaitingLine, note, notebook}
+use Rattle.account.specs.Truth.{clockOf, loginUntil, loginLive, spentLive}
 use Rattle.account.proofs.Base.{Case, is, isnt, case, clash}
-use Rattle.account.proofs.Sim.{Slot, noSlot, on, alive, lives, Above, Up, upOf, deep, Under, Good, Sim}
-use Rattle.account.proofs.Edits.{alive-kind, alive-time, under-of, home-lives}
-use Rattle.account.proofs.Look.{recOf, Tied, rec-on, Hit, Miss, isTicketNamed, isWaitingOf, hit-named, hit-slot, miss-named, hit-ticket, miss-ticket, hit-waiting, ticket-kind, waiting-kind, named-kind, named-name}
+use Rattle.account.proofs.Sim.{Slot, noSlot, on, Above, Up, upOf, Under, Sim}
+use Rattle.account.proofs.Edits.{alive-time, under-of, home-lives}
+use Rattle.account.proofs.Look.{seen, recOf, Tied, rec-on, Hit, isTicketNamed, isWaitingOf, hit-named, hit-slot, miss-named, hit-ticket, miss-ticket, hit-waiting, ticket-kind, waiting-kind, named-kind}
 use Rattle.account.proofs.Tables.{put-slots, tied-none, tied-remove, tied-removed, some-slot, spent-good, tied-pass}
 use Rattle.account.proofs.Sessions.{end-some, end-none, tied-raise}
-use Rattle.account.proofs.Making.{New, NewRef, new-text, new-ref, tied-login, tied-session, Source, session-source, under-source, tied-under}
-use Rattle.account.proofs.Reached.{OwesIssue, OwesOpen, RightLine, OwesWelcome, OwesCallback, OwesSettle, Owes, AllOwes, Reached}
+use Rattle.account.proofs.Making.{new-text, new-ref, tied-login, tied-session, session-source, under-source, tied-under}
+use Rattle.account.proofs.Reached.{RightLine, OwesSettle, Reached}
+use Rattle.account.proofs.Logins.{clock-told, all-logins}
 use Rattle.account.proofs.Chains.{user-ok, chain-ok, depth-ok, ticket-up, waiting-up}
 
 -- a table as it was, put together again
@@ -65,8 +65,16 @@ module _ (start : ℕ) (h : List Item) (t : Table) (R : Reached start h t) where
           tied-remove L t (R .tied) (slotNamed aLogin lt t) (x .live) (λ e. omega arith) (λ e. omega arith) (isLine aLogin lt) spent refl (x .picked) (x .others)
 
   -- and it was live
-  pub spend-live : (lt : Text) → eqb (slotNamed aLogin lt t) 0 ≡ false → loginLive lt L ≡ true
-  spend-live lt z = let x = hit-named L t (R .tied) aLogin lt (omega arith) z in rw (x .line)
+  pub spend-live : (lt : Text) → eqb (slotNamed aLogin lt t) 0 ≡ false → loginLive start h lt ≡ true
+  spend-live lt z =
+      let x = hit-named L t (R .tied) aLogin lt (omega arith) z in
+      let e : Line = on (R .tied .A) (slotNamed aLogin lt t) .e in
+      let s = seen (isLine aLogin lt) (L .book) e (x .line) in
+      let w = both (eqb (e .kind) aLogin) (same (e .name) lt) (s .2) in
+      let n : e .name ≡ lt = same-eq (e .name) lt (w .1) in
+      let u : loginUntil start h lt ≡ e .expiry = rw n at (all-logins start h (R .paid) e (s .0) (w .0) (s .1)) in
+      let g = R .tied .sim .good (slotNamed aLogin lt t) (x .live) in
+      lt-ltb (clockOf start h) (loginUntil start h lt) (omega (arith, clock-told start h, g .expiry-eq, alive-time (L .clock) (on (R .tied .A) (slotNamed aLogin lt t) .r) (x .live)))
 
   pub reach-end : (cookie : Text) → eqb (sessionOf cookie t) 0 ≡ false → Reached start (Ended cookie ∷ h) (endSession (sessionOf cookie t) t)
   unfolding notebook note
@@ -77,23 +85,25 @@ module _ (start : ℕ) (h : List Item) (t : Table) (R : Reached start h t) where
   reach-unended cookie e = record { tied = end-none L t (R .tied) cookie e; paid = (tt, R .paid) }
 
   pub reach-open : Room t → (user random : List ℕ) (signed : Bool) (lt : Text) → signed ≡ true → spentLive start h lt ≡ true
-    → Reached start (Opened (nameOf (newRec aSession 0 0 0 0 user random t)) user signed lt ∷ h) (add (newRec aSession 0 0 0 0 user random t) t)
+      → Reached start (Opened (nameOf (newRec aSession 0 0 0 0 user random t)) user signed lt ∷ h) (add (newRec aSession 0 0 0 0 user random t) t)
   unfolding notebook note newRec
   reach-open m user random signed lt yes-said live =
       record {
         tied = tied-session L t (R .tied) m user random;
-        paid =
-          (record {
+        paid = (
+          record {
             new = new-text L t (R .tied) (m .serial) (newRec aSession 0 0 0 0 user random t) refl (omega arith) (omega arith);
             said-yes = yes-said;
             live = live;
-          }, R .paid);
+          },
+          R .paid,
+        );
       }
 
   -- a service ticket under the session in slot s, which the cookie names
   pub reach-issue : Room t → (s : ℕ) (cookie : Text) → isNamed (t .clock) aSession cookie (recAt s (t .slots)) ≡ true
-    → (mark : ℕ) (service random : List ℕ) (signed : Bool) (lt : Text) → signed ≡ not (eqb mark 0) → (signed ≡ true → spentLive start h lt ≡ true)
-    → Reached start (Issued cookie service (nameOf (newRec aService mark s s 0 service random t)) signed lt ∷ h) (add (newRec aService mark s s 0 service random t) t)
+      → (mark : ℕ) (service random : List ℕ) (signed : Bool) (lt : Text) → signed ≡ not (eqb mark 0) → (signed ≡ true → spentLive start h lt ≡ true)
+      → Reached start (Issued cookie service (nameOf (newRec aService mark s s 0 service random t)) signed lt ∷ h) (add (newRec aService mark s s 0 service random t) t)
   unfolding notebook note newRec
   reach-issue m s cookie named mark service random signed lt marked live =
       let w = R .tied in
@@ -102,16 +112,18 @@ module _ (start : ℕ) (h : List Item) (t : Table) (R : Reached start h t) where
       let k = named-kind (L .clock) aSession cookie (on (w .A) s .r) n in
       record {
         tied =
-          rw (x .line)
+            rw (x .line)
             (tied-under L t w m s (x .live) (on (w .A) s .e) (session-source (w .A) (w .n) s (w .sim .good s (x .live)) k) aService mark s 0 service random [] signed 0 [] []
-              (omega arith) (omega arith) (omega arith) marked (λ e. absurd (omega arith)) (omega arith) (λ e. absurd (omega arith)) refl (λ e. absurd (omega arith)));
-        paid =
-          (record {
+            (omega arith) (omega arith) (omega arith) marked (λ e. absurd (omega arith)) (omega arith) (λ e. absurd (omega arith)) refl (λ e. absurd (omega arith)));
+        paid = (
+          record {
             source = on (w .A) s .e;
             line = x .line;
             new = new-text L t w (m .serial) (newRec aService mark s s 0 service random t) refl (omega arith) (omega arith);
             primary = live;
-          }, R .paid);
+          },
+          R .paid,
+        );
       }
 
   up-above : (A : List Slot) (k s : ℕ) (chain : List Text) → 1 ≤ k → Above A k s chain → Up A k s chain
@@ -120,9 +132,9 @@ module _ (start : ℕ) (h : List Item) (t : Table) (R : Reached start h t) where
 
   -- a proxy ticket by the grant in slot k
   pub reach-proxy : Room t → (pgt : Text) → eqb (slotNamed aGrant pgt t) 0 ≡ false → (target random : List ℕ)
-    → Reached start
-        (Proxied pgt target (nameOf (newRec aProxy 0 (slotNamed aGrant pgt t) (recAt (slotNamed aGrant pgt t) (t .slots) .session) 0 target random t)) ∷ h)
-        (add (newRec aProxy 0 (slotNamed aGrant pgt t) (recAt (slotNamed aGrant pgt t) (t .slots) .session) 0 target random t) t)
+      → Reached start
+      (Proxied pgt target (nameOf (newRec aProxy 0 (slotNamed aGrant pgt t) (recAt (slotNamed aGrant pgt t) (t .slots) .session) 0 target random t)) ∷ h)
+      (add (newRec aProxy 0 (slotNamed aGrant pgt t) (recAt (slotNamed aGrant pgt t) (t .slots) .session) 0 target random t) t)
   unfolding notebook note newRec
   reach-proxy m pgt e target random =
       let w = R .tied in
@@ -135,18 +147,20 @@ module _ (start : ℕ) (h : List Item) (t : Table) (R : Reached start h t) where
       let above : Above (w .A) k s (on (w .A) k .e .text ∷ on (w .A) k .e .chain) = record { grants = kind; its-session = refl; even = u .lasts kind; linked = rw (g .text-eq) } in
       record {
         tied =
-          rw (x .line, rec-on L t w k)
+            rw (x .line, rec-on L t w k)
             (tied-under L t w m s (home-lives (L .clock) (w .A) (on (w .A) k) u (alive-time (L .clock) (on (w .A) k .r) (x .live))) (on (w .A) k .e) (under-source (w .A) (on (w .A) k) u)
-              aProxy 0 k 0 target random (on (w .A) k .e .text ∷ on (w .A) k .e .chain) false 0 [] []
-              (omega arith) (omega arith) (omega arith) refl (λ z. absurd (omega arith)) (omega arith) (λ z. absurd (omega arith))
-              (up-above (w .A) k s _ (pos k e) above) (λ z. absurd (omega arith)));
-        paid =
-          (record {
+            aProxy 0 k 0 target random (on (w .A) k .e .text ∷ on (w .A) k .e .chain) false 0 [] []
+            (omega arith) (omega arith) (omega arith) refl (λ z. absurd (omega arith)) (omega arith) (λ z. absurd (omega arith))
+            (up-above (w .A) k s _ (pos k e) above) (λ z. absurd (omega arith)));
+        paid = (
+          record {
             source = on (w .A) k .e;
             line = x .line;
             new = new-text L t w (m .serial) (newRec aProxy 0 k (recAt k (t .slots) .session) 0 target random t) refl (omega arith) (omega arith);
             primary = λ z. absurd (clash z refl);
-          }, R .paid);
+          },
+          R .paid,
+        );
       }
     where
       pos : (k : ℕ) → eqb k 0 ≡ false → 1 ≤ k
@@ -192,27 +206,17 @@ module _ (start : ℕ) (h : List Item) (t : Table) (R : Reached start h t) where
     reach-burn = record { tied = removed burnt refl .0; paid = (tt, R .paid) }
 
     -- accepted: the line's text, mark and kind are the record's
-    pub right-line : (v : Validator) (renew : Bool) (service : Text) → (eqb (recAt k (t .slots) .kind) aProxy && not (takesProxies v)) ≡ false
-      → (renew && eqb (recAt k (t .slots) .mark) 0) ≡ false → same (recAt k (t .slots) .text) service ≡ true → RightLine v renew service (a .e)
-    right-line v renew service p q s =
+    pub right-line : (v : Validator) (renew : Bool) (service : Text) → (eqb (recAt k (t .slots) .kind) aProxy ≡ true → takesProxies v ≡ true)
+        → (renew ≡ true → eqb (recAt k (t .slots) .mark) 0 ≡ false) → recAt k (t .slots) .text ≡ service → RightLine v renew service (a .e)
+    right-line v renew service taken marked meant =
         let g = R .tied .sim .good k (hits .live) in
         let r = rec-on L t (R .tied) k in
-        let p′ : (eqb (a .r .kind) aProxy && not (takesProxies v)) ≡ false = rw r at p in
-        let q′ : (renew && eqb (a .r .mark) 0) ≡ false = rw r at q in
-        let s′ : same (a .r .text) service ≡ true = rw r at s in
+        let m : renew ≡ true → eqb (a .r .mark) 0 ≡ false = rw r at marked in
         record {
-          text-is = g .text-eq ∙ same-eq (a .r .text) service s′;
-          primary = λ x. g .mark-eq ∙ marks renew (eqb (a .r .mark) 0) x q′;
-          allowed = λ x. takes (eqb (a .r .kind) aProxy) (takesProxies v) (rw (g .kind-eq) at x) p′;
+          text-is = g .text-eq ∙ (rw r at meant);
+          primary = λ x. g .mark-eq ∙ ap not (m x);
+          allowed = λ x. (rw r at taken) (rw (g .kind-eq) at x);
         }
-      where
-        marks : (a b : Bool) → a ≡ true → (a && b) ≡ false → not b ≡ true
-        marks true b x z = rw z
-        marks false b x z = absurd (clash x refl)
-        takes : (a b : Bool) → a ≡ true → (a && not b) ≡ false → b ≡ true
-        takes true true x z = refl
-        takes true false x z = absurd (clash refl z)
-        takes false b x z = absurd (clash x refl)
 
     -- the records of the table without it
     rec-after : (j : ℕ) → recAt j (putAt k freeRec (t .slots)) ≡ on (set (R .tied .A) k noSlot) j .r
@@ -231,23 +235,23 @@ module _ (start : ℕ) (h : List Item) (t : Table) (R : Reached start h t) where
     unfolding closeAll
     welcome-is =
         rw (rec-on L t (R .tied) k)
-          (user-ok _ (set (R .tied .A) k noSlot) (R .tied .n) (sim-after accepted refl) (putAt k freeRec (t .slots)) rec-after a under-after (alive-time (L .clock) (a .r) (hits .live)))
+        (user-ok _ (set (R .tied .A) k noSlot) (R .tied .n) (sim-after accepted refl) (putAt k freeRec (t .slots)) rec-after a under-after (alive-time (L .clock) (a .r) (hits .live)))
 
     pub chain-told : chainOf (proxyParent (recAt k (t .slots))) (putAt k freeRec (t .slots)) ≡ a .e .chain
     unfolding closeAll
     chain-told =
         rw (rec-on L t (R .tied) k)
-          (chain-ok _ (set (R .tied .A) k noSlot) (R .tied .n) (sim-after accepted refl) (putAt k freeRec (t .slots)) rec-after a under-after (alive-time (L .clock) (a .r) (hits .live))
-            (proxyParent (a .r)) (ticket-up (a .r) is-ticket))
+        (chain-ok _ (set (R .tied .A) k noSlot) (R .tied .n) (sim-after accepted refl) (putAt k freeRec (t .slots)) rec-after a under-after (alive-time (L .clock) (a .r) (hits .live))
+        (proxyParent (a .r)) (ticket-up (a .r) is-ticket))
 
     pub reach-welcome : (v : Validator) (renew : Bool) (service said : Text) → RightLine v renew service (a .e)
-      → said ≡ if (isPlain v) (ascii "yes\n") (successText (recAt (recAt k (t .slots) .session) (putAt k freeRec (t .slots)) .text) [] (chainOf (proxyParent (recAt k (t .slots))) (putAt k freeRec (t .slots))))
-      → Reached start (Welcomed v renew ticket service said ∷ h) (remove (ticketSlot ticket t) t)
+        → said ≡ if (isPlain v) (ascii "yes\n") (successText (a .e .user) [] (chainOf (proxyParent (recAt k (t .slots))) (putAt k freeRec (t .slots))))
+        → Reached start (Welcomed v renew ticket service said ∷ h) (remove (ticketSlot ticket t) t)
     unfolding notebook note
     reach-welcome v renew service said right bytes =
         record {
           tied = removed accepted refl .0;
-          paid = (record { ticket-line = a .e; line = hits .line; right = right; bytes = rw (welcome-is, chain-told) at bytes }, R .paid);
+          paid = (record { ticket-line = a .e; line = hits .line; right = right; bytes = rw chain-told at bytes }, R .paid);
         }
 
     abbrev t′ : Table
@@ -258,7 +262,7 @@ module _ (start : ℕ) (h : List Item) (t : Table) (R : Reached start h t) where
         newRec aWaiting 0 (proxyParent (recAt k (t .slots))) (recAt k (t .slots) .session) (recAt (proxyParent (recAt k (t .slots))) (t′ .slots) .depth + 1) url random t′
 
     pub reach-callback : Room t′ → (v : Validator) (renew : Bool) (service url random : Text) → RightLine v renew service (a .e)
-      → Reached start (CalledBack v renew ticket service url (nameOf (waiting url random)) (iouText (waiting url random .iou)) (waiting url random .serial) ∷ h) (add (waiting url random) t′)
+        → Reached start (CalledBack v renew ticket service url (nameOf (waiting url random)) (iouText (waiting url random .iou)) (waiting url random .serial) ∷ h) (add (waiting url random) t′)
     unfolding notebook note newRec closeAll
     reach-callback m v renew service url random right =
         let w = R .tied in
@@ -269,19 +273,21 @@ module _ (start : ℕ) (h : List Item) (t : Table) (R : Reached start h t) where
         let up = ticket-up (a .r) is-ticket in
         record {
           tied =
-            rw (hits .line, rec-on L t w k)
+              rw (hits .line, rec-on L t w k)
               (tied-under (closeAll accepted (isTicketLine ticket) L) t′ (d .0) m (a .r .session) (home-lives (L .clock) (d .0 .A) a u live) (a .e) (under-source (d .0 .A) a u)
-                aWaiting 0 (proxyParent (a .r)) (recAt (proxyParent (a .r)) (t′ .slots) .depth + 1) url random (a .e .chain) false (t .next) (a .e .name) (iouText (iouFrom aWaiting random))
-                (omega arith) (omega arith) (omega arith) refl (λ z. refl) (omega arith) (λ z. refl) (rw up (u .line))
-                (λ z. rw up (depth-ok _ (d .0 .A) (d .0 .n) (d .0 .sim) (t′ .slots) rec a u live (upOf (a .r)) refl)));
-          paid =
-            (record {
+              aWaiting 0 (proxyParent (a .r)) (recAt (proxyParent (a .r)) (t′ .slots) .depth + 1) url random (a .e .chain) false (t .next) (a .e .name) (iouText (iouFrom aWaiting random))
+              (omega arith) (omega arith) (omega arith) refl (λ z. refl) (omega arith) (λ z. refl) (rw up (u .line))
+              (λ z. rw up (depth-ok _ (d .0 .A) (d .0 .n) (d .0 .sim) (t′ .slots) rec a u live (upOf (a .r)) refl)));
+          paid = (
+            record {
               ticket-line = a .e;
               line = hits .line;
               right = right;
               new = new-text L t w (m .serial) (waiting url random) refl (omega arith) (omega arith);
               new-ref = new-ref L t w (m .serial);
-            }, R .paid);
+            },
+            R .paid,
+          );
         }
 
   -- The callback of a serial is settled
@@ -302,8 +308,8 @@ module _ (start : ℕ) (h : List Item) (t : Table) (R : Reached start h t) where
     under = under-of (R .tied .A) b (R .tied .sim .good j (waits .live) .placed) (omega (arith, is-waiting))
 
     pub settle-owes : (outcome : Bool) (said : Text)
-      → said ≡ successText (recAt (recAt j (t .slots) .session) (t .slots) .text) (if outcome (iouText (recAt j (t .slots) .iou)) []) (chainOf (recAt j (t .slots) .parent) (t .slots))
-      → OwesSettle start h serial outcome said
+        → said ≡ successText (recAt (recAt j (t .slots) .session) (t .slots) .text) (if outcome (iouText (recAt j (t .slots) .iou)) []) (chainOf (recAt j (t .slots) .parent) (t .slots))
+        → OwesSettle start h serial outcome said
     settle-owes outcome said bytes =
         let w = R .tied in
         let r = rec-on L t w j in
@@ -314,7 +320,7 @@ module _ (start : ℕ) (h : List Item) (t : Table) (R : Reached start h t) where
         record { waiting-line = b .e; line = waits .line; bytes = rw (r, user, chain, ← iou) at bytes }
 
     pub reach-granted : (said : Text) → OwesSettle start h serial true said
-      → Reached start (Settled serial true said ∷ h) (put (waitingSlot serial t) (granted (recAt (waitingSlot serial t) (t .slots)) (t .slots)) t)
+        → Reached start (Settled serial true said ∷ h) (put (waitingSlot serial t) (granted (recAt (waitingSlot serial t) (t .slots)) (t .slots)) t)
     unfolding notebook note
     reach-granted said owes = record { tied = tied-raise L t (R .tied) serial e; paid = (owes, R .paid) }
 
@@ -323,6 +329,6 @@ module _ (start : ℕ) (h : List Item) (t : Table) (R : Reached start h t) where
     reach-refused said owes =
         record {
           tied =
-            tied-remove L t (R .tied) j (waits .live) (λ x. omega (arith, is-waiting)) (λ x. omega (arith, is-waiting)) (isWaitingLine serial) spent refl (waits .picked) (waits .others);
+              tied-remove L t (R .tied) j (waits .live) (λ x. omega (arith, is-waiting)) (λ x. omega (arith, is-waiting)) (isWaitingLine serial) spent refl (waits .picked) (waits .others);
           paid = (owes, R .paid);
         }

@@ -1,30 +1,29 @@
 -- login by GET: what its answer says is what it did to the table. Assumes nothing.
-use mathlib.Core.Path.{_≡_, refl, sym, ap, _∙_}
-use mathlib.Core.Bool.{Bool, true, false, not, _&&_, _||_}
-use mathlib.Core.List.{List, [], _∷_, _++_}
-use Prim.Native.Nat.{ℕ, zero, suc, _+_, _≤_, _<_}
+use mathlib.Core.Path.{_≡_, refl}
+use mathlib.Core.Bool.{true, false, not, _&&_}
+use mathlib.Core.List.{List, [], _∷_}
+use Prim.Native.Nat.{ℕ, _≤_}
 use native.Mathlib.Omega.{arith}
 use borrow.Author.Tests.{ltb-true, ne-eqb}
 use lib.Dec.{eqb, ltb}
-use Rattle.protocol.specs.Bytes.{if, isEmpty, same, decimal, ascii}
+use Rattle.protocol.specs.Bytes.{isEmpty, decimal}
 use Rattle.protocol.specs.Tickets.{aLogin, aSession, aService}
 use Rattle.protocol.specs.Records.{Rec, nameOf}
-use Rattle.protocol.specs.Table.{Table, recAt, countKind, loginCap}
+use Rattle.protocol.specs.Table.{Table, countKind, loginCap}
 use Rattle.protocol.specs.Register.{decodeRegister}
 use Rattle.protocol.specs.Request.{malformed, loginNames, fromQuery, present}
-use Rattle.protocol.specs.Answers.{Reply, ErrorPage, SignedIn, FormPage, RedirectTo, replyText, replyAnswer, pageHead, formText, redirectText}
-use Rattle.protocol.specs.Steps.{Brought, Step, step, sessionOf, slotNamed, roomFor, newRec, add, formWith, formStep, ticketWith, ticketStep, signedOn, loginPage, unknownService, loginGet}
-use Rattle.protocol.specs.declared.Path.{Path}
+use Rattle.protocol.specs.Answers.{ErrorPage, SignedIn, FormPage, RedirectTo, replyText, replyAnswer, pageHead}
+use Rattle.protocol.specs.Steps.{Brought, Step, step, sessionOf, roomFor, newRec, formWith, formStep, ticketWith, ticketStep, signedOn, loginPage, unknownService, loginGet}
 use Rattle.protocol.specs.declared.Path.the-variants as path
 use Rattle.protocol.proofs.Laws.{both}
 use Rattle.protocol.proofs.Added.{Room, room-one}
 use Rattle.account.specs.History.{Text, Asked}
 use Rattle.account.specs.Reading.{Item, Showed, Issued, isForm, readLoginGet}
-use Rattle.account.proofs.Base.{Case, is, isnt, case, clash, fork}
+use Rattle.account.proofs.Base.{clash, fork}
 use Rattle.account.proofs.Reached.{Reached}
 use Rattle.account.proofs.Items.{reach-show, reach-issue}
 use Rattle.account.proofs.Texts.{letters, name-letters, name-some, ticket-read, form-200, page-400, page-403, page-503, page-in}
-use Rattle.account.proofs.Counts.{Ok, ok-by, slot-named, issuesIn, acceptsIn, sumIn}
+use Rattle.account.proofs.Counts.{Ok, ok-by, slot-named}
 
 -- what a request brings, from the call
 abbrev pub bring : Asked → Brought
@@ -62,15 +61,15 @@ module _ (start : ℕ) (h : List Item) (t : Table) (R : Reached start h t) (a : 
   unfolding formStep formWith replyAnswer
   form-ok service random =
       fork G (roomFor 1 t && ltb (countKind aLogin (t .slots)) loginCap)
-        (λ e.
-          let m = room-one t (both (roomFor 1 t) (ltb (countKind aLogin (t .slots)) loginCap) e .0) in
-          let r : Rec = newRec aLogin 0 0 0 0 [] random t in
-          ok-by start h path.Login _ (Showed (nameOf r) ∷ []) _ (form-said (nameOf r) service (new-letters aLogin 0 0 0 0 [] random t (omega arith) (omega arith)))
-            (record { reached = reach-show start h t R m random; issues = refl; accepts-eq = refl }))
-        (λ e. quiet-page 503 page-503)
+      (λ e.
+      let m = room-one t (both (roomFor 1 t) (ltb (countKind aLogin (t .slots)) loginCap) e .0) in
+      let r : Rec = newRec aLogin 0 0 0 0 [] random t in
+      ok-by start h path.Login _ (Showed (nameOf r) ∷ []) _ (form-said (nameOf r) service (new-letters aLogin 0 0 0 0 [] random t (omega arith) (omega arith)))
+      (record { reached = reach-show start h t R m random; issues = refl; accepts-eq = refl }))
+      (λ e. quiet-page 503 page-503)
 
   ticket-said : (ticket : Text) → isEmpty ticket ≡ false
-    → readLoginGet a q (replyAnswer (RedirectTo (fromQuery "service" q) ticket)) (replyText (RedirectTo (fromQuery "service" q) ticket)) ≡ Issued (a .cookie) (fromQuery "service" q) ticket false [] ∷ []
+      → readLoginGet a q (replyAnswer (RedirectTo (fromQuery "service" q) ticket)) (replyText (RedirectTo (fromQuery "service" q) ticket)) ≡ Issued (a .cookie) (fromQuery "service" q) ticket false [] ∷ []
   unfolding replyText replyAnswer readLoginGet
   ticket-said ticket e = rw (e, ticket-read (fromQuery "service" q) ticket e)
 
@@ -80,30 +79,30 @@ module _ (start : ℕ) (h : List Item) (t : Table) (R : Reached start h t) (a : 
       let s : ℕ = sessionOf (a .cookie) t in
       let some = new-some aService 0 s s 0 (fromQuery "service" q) (a .random) t (omega arith) (omega arith) in
       ok-by start h path.Login _ (Issued (a .cookie) (fromQuery "service" q) (nameOf (newRec aService 0 s s 0 (fromQuery "service" q) (a .random) t)) false [] ∷ []) _
-        (ticket-said (nameOf (newRec aService 0 s s 0 (fromQuery "service" q) (a .random) t)) some)
-        (record {
-          reached =
+      (ticket-said (nameOf (newRec aService 0 s s 0 (fromQuery "service" q) (a .random) t)) some)
+      (record {
+        reached =
             reach-issue start h t R m s (a .cookie) (slot-named aSession (a .cookie) t e) 0 (fromQuery "service" q) (a .random) false [] refl (λ z. absurd (clash z refl));
-          issues = rw some;
-          accepts-eq = refl;
-        })
+        issues = rw some;
+        accepts-eq = refl;
+      })
 
   signed-ok : eqb (sessionOf (a .cookie) t) 0 ≡ false → G (signedOn (sessionOf (a .cookie) t) (fromQuery "service" q) (a .random) t)
   unfolding signedOn
   signed-ok e =
       fork G (isEmpty (fromQuery "service" q)) (λ z. quiet-in)
-        (λ z. fork G (roomFor 1 t) (λ r. ticket-ok e (room-one t r)) (λ r. quiet-page 503 page-503))
+      (λ z. fork G (roomFor 1 t) (λ r. ticket-ok e (room-one t r)) (λ r. quiet-page 503 page-503))
 
   pub login-get-ok : G (loginGet q (bring a) t)
   unfolding loginGet loginPage
   login-get-ok =
       fork G (malformed false loginNames q) (λ z. quiet-page 400 page-400)
-        (λ z.
-          fork G (unknownService (fromQuery "service" q) (decodeRegister (a .register))) (λ z. quiet-page 403 page-403)
-            (λ z.
-              fork G (not (present "renew" q) && ltb 0 (sessionOf (a .cookie) t))
-                (λ z. signed-ok (some (both (not (present "renew" q)) (ltb 0 (sessionOf (a .cookie) t)) z .1)))
-                (λ z. fork G (present "gateway" q && not (present "renew" q) && not (isEmpty (fromQuery "service" q))) (λ z. quiet-redirect (fromQuery "service" q)) (λ z. form-ok (fromQuery "service" q) (a .random)))))
+      (λ z.
+      fork G (unknownService (fromQuery "service" q) (decodeRegister (a .register))) (λ z. quiet-page 403 page-403)
+      (λ z.
+      fork G (not (present "renew" q) && ltb 0 (sessionOf (a .cookie) t))
+      (λ z. signed-ok (some (both (not (present "renew" q)) (ltb 0 (sessionOf (a .cookie) t)) z .1)))
+      (λ z. fork G (present "gateway" q && not (present "renew" q) && not (isEmpty (fromQuery "service" q))) (λ z. quiet-redirect (fromQuery "service" q)) (λ z. form-ok (fromQuery "service" q) (a .random)))))
     where
       some : ltb 0 (sessionOf (a .cookie) t) ≡ true → eqb (sessionOf (a .cookie) t) 0 ≡ false
       some z = let l = ltb-true 0 (sessionOf (a .cookie) t) z in ne-eqb (sessionOf (a .cookie) t) 0 (λ e. omega arith)

@@ -1,191 +1,36 @@
 -- login by POST: what its answer says is what it did to the table. Assumes nothing.
-use mathlib.Core.Path.{_≡_, refl, sym, ap, _∙_, subst}
-use mathlib.Core.Bool.{Bool, true, false, not, _&&_, _||_}
+use mathlib.Core.Path.{_≡_, refl, sym, subst}
+use mathlib.Core.Bool.{Bool, true, false, not, _||_}
 use mathlib.Core.List.{List, [], _∷_, _++_}
-use Prim.Native.Nat.{ℕ, zero, suc, _+_, _≤_, _<_}
+use Prim.Native.Nat.{ℕ, _+_}
 use native.Mathlib.Omega.{arith}
-use borrow.Author.Tests.{ltb-true, lt-ltb, ne-eqb, eqb-true, not-false}
-use lib.Dec.{eqb, ltb}
-use Rattle.protocol.specs.Bytes.{if, isEmpty, same, decimal, ascii}
-use Rattle.protocol.specs.Tickets.{aLogin, aSession, aService, lifetime}
-use Rattle.protocol.specs.Records.{Rec, nameOf, live}
-use Rattle.protocol.specs.Table.{Table, recAt, putAt, countKind, loginCap}
+use borrow.Author.Tests.{not-false}
+use lib.Dec.{eqb}
+use Rattle.protocol.specs.Bytes.{if, isEmpty}
+use Rattle.protocol.specs.Table.{Table}
 use Rattle.protocol.specs.Register.{decodeRegister}
 use Rattle.protocol.specs.Request.{malformed, bodyNames, fromBody}
-use Rattle.protocol.specs.Answers.{Reply, ErrorPage, SignedIn, FormPage, RedirectTo, replyText, replyAnswer, pageHead, formText, redirectText}
-use Rattle.protocol.specs.Steps.{Brought, Step, step, remove, endSession, isNamed, sessionOf, slotNamed, slotFor, roomFor, newRec, expiryFor, add, formWith, formStep, ticketWith, ticketStep, unknownService, admitted, newSession, needs, issueAll, accepted, credentials, loginTicket, loginPost}
-use Rattle.protocol.specs.declared.Path.{Path}
+use Rattle.protocol.specs.Answers.{ErrorPage, replyText, replyAnswer}
+use Rattle.protocol.specs.Steps.{Step, step, remove, sessionOf, unknownService, accepted, credentials, loginTicket, loginPost}
 use Rattle.protocol.specs.declared.Path.the-variants as path
-use Rattle.protocol.proofs.Laws.{both, same-refl}
-use Rattle.protocol.proofs.Kept.{put-same}
-use Rattle.protocol.proofs.Added.{Room, room-one}
+use Rattle.protocol.proofs.Laws.{same-refl}
 use Rattle.account.specs.History.{Text, Asked}
-use Rattle.account.specs.Clauses.{admitting}
-use Rattle.account.specs.Reading.{Item, Showed, Spent, Ended, Opened, Issued, isForm, readSession, cookieAfter, readLoginPost, readPost}
-use Rattle.account.specs.Notebook.{notebook}
+use Rattle.account.specs.Clauses.{changedAt, admitting}
+use Rattle.account.specs.Reading.{Item, Spent, readLoginPost, readPost}
 use Rattle.account.specs.Truth.{spentLive}
-use Rattle.account.proofs.Base.{Case, is, isnt, case, clash, fork}
+use Rattle.account.proofs.Base.{clash, fork}
 use Rattle.account.proofs.Reached.{Reached}
-use Rattle.account.proofs.Items.{reach-show, reach-spend, spend-live, reach-end, reach-unended, reach-open, reach-issue}
-use Rattle.account.proofs.Texts.{append-assoc, letters, ticket-read, form-401, page-400, page-403, page-503, page-in}
-use Rattle.account.proofs.Counts.{Ok, ok-by, slot-named, issuesIn, acceptsIn, sumIn, sum-append, room-less, room-after}
-use Rattle.account.proofs.LoginGet.{bring, new-letters, new-some}
-use Rattle.account.proofs.Same.{accepted-is}
+use Rattle.account.proofs.Items.{reach-spend, spend-live}
+use Rattle.account.proofs.Texts.{append-assoc, page-403}
+use Rattle.account.proofs.Counts.{Ok, sum-append}
+use Rattle.account.specs.Account.{issuesIn, acceptsIn}
+use Rattle.account.proofs.LoginGet.{bring}
+use Rattle.account.proofs.SignOn.{P, quiet-page, form-ok, admitting-ok}
 
-module _ (start : ℕ) (h : List Item) (a : Asked) where
-  abbrev P : Step → Type 0
-  P s = Ok start h path.Login (readLoginPost a (replyAnswer (s .reply)) (replyText (s .reply)) (s .cookie) (s .cleared)) s
-
-  -- what was said of sessions, and the table after it
-  abbrev service : Text
-  service = fromBody "service" (a .body)
-
-  abbrev lt : Text
-  lt = fromBody "lt" (a .body)
-
-  quiet-page : (t : Table) → Reached start h t → (status : ℕ) → isForm (pageHead status (decimal status)) ≡ false → P (step t (ErrorPage status))
-  unfolding replyText replyAnswer readLoginPost readSession
-  quiet-page t R status e = rw e (record { reached = R; issues = refl; accepts-eq = refl })
-
-  form-said : (shown s : Text) → letters shown ≡ true → readLoginPost a (replyAnswer (FormPage 401 shown s)) (replyText (FormPage 401 shown s)) [] false ≡ Showed shown ∷ []
-  unfolding replyText replyAnswer readLoginPost
-  form-said shown s e = let f = form-401 shown s e in rw (f .0, f .1)
-
-  form-ok : (t : Table) → Reached start h t → (random : List ℕ) → P (formStep 401 service random t)
-  unfolding formStep formWith replyAnswer
-  form-ok t R random =
-      fork P (roomFor 1 t && ltb (countKind aLogin (t .slots)) loginCap)
-        (λ e.
-          let m = room-one t (both (roomFor 1 t) (ltb (countKind aLogin (t .slots)) loginCap) e .0) in
-          let r : Rec = newRec aLogin 0 0 0 0 [] random t in
-          ok-by start h path.Login _ (Showed (nameOf r) ∷ []) _ (form-said (nameOf r) service (new-letters aLogin 0 0 0 0 [] random t (omega arith) (omega arith)))
-            (record { reached = reach-show start h t R m random; issues = refl; accepts-eq = refl }))
-        (λ e. quiet-page t R 503 page-503)
-
-  -- 503, where a session has ended or not
-  refused-ok : (t : Table) (cleared : Bool) → Reached start (readSession a [] cleared ++ h) t → P (record { table = t; reply = ErrorPage 503; cookie = []; cleared = cleared })
-  unfolding replyText replyAnswer readLoginPost readSession
-  refused-ok t true R = rw page-503 (record { reached = R; issues = refl; accepts-eq = refl })
-  refused-ok t false R = rw page-503 (record { reached = R; issues = refl; accepts-eq = refl })
-
-  ticket-said : (ticket cookie : Text) → isEmpty ticket ≡ false
-    → readLoginPost a (replyAnswer (RedirectTo service ticket)) (replyText (RedirectTo service ticket)) cookie false
-      ≡ Issued (cookieAfter (a .cookie) cookie) service ticket (a .verdict) lt ∷ readSession a cookie false
-  unfolding replyText replyAnswer readLoginPost
-  ticket-said ticket cookie e = rw (e, ticket-read service ticket e)
-
-  in-said : (cookie : Text) → readLoginPost a (replyAnswer SignedIn) (replyText SignedIn) cookie false ≡ readSession a cookie false
-  unfolding replyText replyAnswer readLoginPost
-  in-said cookie = rw page-in
-
-  no-issue : (cookie : Text) → (sumIn issuesIn (readSession a cookie false) ≡ 0) × (sumIn acceptsIn (readSession a cookie false) ≡ 0)
-  unfolding readSession
-  no-issue [] = (refl, refl)
-  no-issue (b ∷ cookie) = (refl, refl)
-
-  -- signed in under the session in slot s, whose cookie is the one after the call
-  admitted-ok : (t : Table) (s : ℕ) (cookie : Text) → Reached start (readSession a cookie false ++ h) t → isNamed (t .clock) aSession (cookieAfter (a .cookie) cookie) (recAt s (t .slots)) ≡ true
-    → a .verdict ≡ true → spentLive start (readSession a cookie false ++ h) lt ≡ true → (isEmpty service ≡ false → Room t) → P (admitted s service (a .random) cookie t)
-  unfolding admitted ticketStep ticketWith replyAnswer
-  admitted-ok t s cookie R named yes-said live room =
-      fork P (isEmpty service)
-        (λ z.
-          ok-by start h path.Login _ (readSession a cookie false) _ (in-said cookie)
-            (record { reached = R; issues = sym (no-issue cookie .0); accepts-eq = sym (no-issue cookie .1) }))
-        (λ z.
-          let some = new-some aService 1 s s 0 service (a .random) t (omega arith) (omega arith) in
-          ok-by start h path.Login _ (Issued (cookieAfter (a .cookie) cookie) service (nameOf (newRec aService 1 s s 0 service (a .random) t)) (a .verdict) lt ∷ readSession a cookie false) _
-            (ticket-said (nameOf (newRec aService 1 s s 0 service (a .random) t)) cookie some)
-            (record {
-              reached =
-                reach-issue start (readSession a cookie false ++ h) t R (room z) s (cookieAfter (a .cookie) cookie) named 1 service (a .random) (a .verdict) lt (rw yes-said) (λ y. live);
-              issues = rw (some, no-issue cookie .0);
-              accepts-eq = rw (no-issue cookie .1);
-            }))
-
-  -- a new session's record, in the slot that it takes
-  fresh-named : (t : Table) → Room t → (user random : List ℕ) → isNamed (add (newRec aSession 0 0 0 0 user random t) t .clock) aSession (nameOf (newRec aSession 0 0 0 0 user random t)) (recAt (slotFor t) (add (newRec aSession 0 0 0 0 user random t) t .slots)) ≡ true
-  unfolding isNamed add newRec expiryFor
-  fresh-named t m user random =
-      rw (put-same (newRec aSession 0 0 0 0 user random t) (t .slots) (slotFor t) (m .some) (m .within), lt-ltb (t .clock) (t .clock + lifetime aSession) (omega arith))
-        (same-refl (nameOf (newRec aSession 0 0 0 0 user random t)))
-
-  not-free : (t : Table) (user random : List ℕ) → newRec aSession 0 0 0 0 user random t .kind ≡ 0 → ⊥
-  unfolding newRec
-  not-free t user random e = omega arith
-
-  -- the cookie of a new session
-  after-new : (cookie : Text) → isEmpty cookie ≡ false
-    → (readSession a cookie false ≡ Opened cookie (fromBody "username" (a .body)) (a .verdict) lt ∷ Ended (a .cookie) ∷ []) × (cookieAfter (a .cookie) cookie ≡ cookie)
-  unfolding readSession
-  after-new [] e = absurd (clash {b = true} refl e)
-  after-new (b ∷ cookie) e = (refl, refl)
-
-  skip-session : (user cookie : Text) → spentLive start h lt ≡ true
-    → (spentLive start (Ended (a .cookie) ∷ h) lt ≡ true) × (spentLive start (Opened cookie user (a .verdict) lt ∷ Ended (a .cookie) ∷ h) lt ≡ true)
-  unfolding spentLive
-  skip-session user cookie e = (e, e)
-
-  -- signed in under a new session, after the old one has ended
-  new-ok : (t : Table) → Reached start (Ended (a .cookie) ∷ h) t → a .verdict ≡ true → spentLive start h lt ≡ true
-    → roomFor (needs false service) t ≡ true → P (newSession (newRec aSession 0 0 0 0 (fromBody "username" (a .body)) (a .random) t) service (a .random) t)
-  unfolding newSession needs
-  new-ok t R yes-said live room =
-      admitted-ok (add r t) (slotFor t) (nameOf r)
-        (rw (n .0) (reach-open start (Ended (a .cookie) ∷ h) t R first user (a .random) (a .verdict) lt yes-said (skip-session user (nameOf r) live .0)))
-        (rw (n .1) (fresh-named t first user (a .random)))
-        yes-said
-        (rw (n .0) (skip-session user (nameOf r) live .1))
-        (λ z. room-one (add r t) (room-after r t (not-free t user (a .random)) first (rw z at room)))
-    where
-      user : Text
-      user = fromBody "username" (a .body)
-      r : Rec
-      r = newRec aSession 0 0 0 0 user (a .random) t
-      n : (readSession a (nameOf r) false ≡ Opened (nameOf r) user (a .verdict) lt ∷ Ended (a .cookie) ∷ []) × (cookieAfter (a .cookie) (nameOf r) ≡ nameOf r)
-      n = after-new (nameOf r) (new-some aSession 0 0 0 0 user (a .random) t (omega arith) (omega arith))
-      first : Room t
-      first = room-one t (go (isEmpty service) refl)
-        where
-          go : (z : Bool) → isEmpty service ≡ z → roomFor 1 t ≡ true
-          go true e = rw e at room
-          go false e = room-less t (rw e at room)
-
-  -- accepted credentials
-  module _ (t : Table) (R : Reached start h t) (yes-said : a .verdict ≡ true) (live : spentLive start h lt ≡ true) where
-    abbrev user : Text
-    user = fromBody "username" (a .body)
-
-    kept-ok : eqb (sessionOf (a .cookie) t) 0 ≡ false → P (issueAll true false (sessionOf (a .cookie) t) user service (a .random) t)
-    unfolding issueAll needs readSession
-    kept-ok e =
-        fork P (roomFor (needs true service) t)
-          (λ r. admitted-ok t (sessionOf (a .cookie) t) [] R (slot-named aSession (a .cookie) t e) yes-said live (λ z. room-one t (rw z at r)))
-          (λ r. refused-ok t false R)
-
-    none-ok : eqb (sessionOf (a .cookie) t) 0 ≡ true → P (issueAll false false (sessionOf (a .cookie) t) user service (a .random) t)
-    unfolding issueAll readSession
-    none-ok e =
-        fork P (roomFor (needs false service) t)
-          (λ r. new-ok t (reach-unended start h t R (a .cookie) e) yes-said live r)
-          (λ r. refused-ok t false R)
-
-    ended-ok : eqb (sessionOf (a .cookie) t) 0 ≡ false → P (issueAll false true (sessionOf (a .cookie) t) user service (a .random) (endSession (sessionOf (a .cookie) t) t))
-    unfolding issueAll readSession
-    ended-ok e =
-        let E = reach-end start h t R (a .cookie) e in
-        fork P (roomFor (needs false service) (endSession (sessionOf (a .cookie) t) t))
-          (λ r. new-ok (endSession (sessionOf (a .cookie) t) t) E yes-said live r)
-          (λ r. refused-ok (endSession (sessionOf (a .cookie) t) t) true E)
-
-    admitting-ok : P (admitting (sessionOf (a .cookie) t) user service (a .random) t)
-    unfolding admitting
-    admitting-ok =
-        fork P (eqb (sessionOf (a .cookie) t) 0) none-ok
-          (λ e. fork P (same (recAt (sessionOf (a .cookie) t) (t .slots) .text) user) (λ z. kept-ok e) (λ z. ended-ok e))
-
-    accepted-ok : P (accepted (sessionOf (a .cookie) t) user service (a .random) t)
-    accepted-ok = subst P (sym (accepted-is (sessionOf (a .cookie) t) user service (a .random) t)) admitting-ok
+-- the clause of accepted credentials is protocol's
+accepted-is : (s : ℕ) (user service random : Text) (t : Table) → accepted s user service random t ≡ admitting s user service random t
+unfolding accepted admitting changedAt
+accepted-is s user service random t = refl
 
 -- the login ticket is spent first
 module _ (start : ℕ) (h : List Item) (t : Table) (R : Reached start h t) (a : Asked) where
@@ -213,12 +58,12 @@ module _ (start : ℕ) (h : List Item) (t : Table) (R : Reached start h t) (a : 
   unfolding credentials
   credentials-ok =
       fork (P start h′ a) (unknownService (fromBody "service" (a .body)) (decodeRegister (a .register))) (λ z. quiet-page start h′ a t′ spent-first 403 page-403)
-        (λ z.
-          fork (P start h′ a) (eqb (loginTicket (a .body) t) 0 || isEmpty (fromBody "username" (a .body)) || isEmpty (fromBody "password" (a .body)) || not (a .verdict))
-            (λ z. form-ok start h′ a t′ spent-first (a .random))
-            (λ z.
-              let n = or-none (eqb (loginTicket (a .body) t) 0) (isEmpty (fromBody "username" (a .body))) (isEmpty (fromBody "password" (a .body))) (not (a .verdict)) z in
-              accepted-ok start h′ a t′ spent-first (not-false (a .verdict) (n .1)) (own-live (n .0))))
+      (λ z.
+      fork (P start h′ a) (eqb (loginTicket (a .body) t) 0 || isEmpty (fromBody "username" (a .body)) || isEmpty (fromBody "password" (a .body)) || not (a .verdict))
+      (λ z. form-ok start h′ a t′ spent-first (a .random))
+      (λ z.
+      let n = or-none (eqb (loginTicket (a .body) t) 0) (isEmpty (fromBody "username" (a .body))) (isEmpty (fromBody "password" (a .body))) (not (a .verdict)) z in
+      subst (P start h′ a) (sym (accepted-is (sessionOf (a .cookie) t′) (fromBody "username" (a .body)) (fromBody "service" (a .body)) (a .random) t′)) (admitting-ok start h′ a t′ spent-first (not-false (a .verdict) (n .1)) (own-live (n .0)))))
 
   -- the same, with the spending said in the call's own items
   widen : (items : List Item) (s : Step) → Ok start h′ path.Login items s → Ok start h path.Login (items ++ (Spent (fromBody "lt" (a .body)) ∷ [])) s
@@ -242,6 +87,6 @@ module _ (start : ℕ) (h : List Item) (t : Table) (R : Reached start h t) (a : 
   by-body false = widen _ _ credentials-ok
 
   pub login-post-ok :
-    (let s = loginPost (a .body) (bring a) t in Ok start h path.Login (readPost path.Login a (replyAnswer (s .reply)) (replyText (s .reply)) (s .cookie) (s .cleared)) s)
+      (let s = loginPost (a .body) (bring a) t in Ok start h path.Login (readPost path.Login a (replyAnswer (s .reply)) (replyText (s .reply)) (s .cookie) (s .cleared)) s)
   unfolding loginPost readPost
   login-post-ok = by-body (malformed true bodyNames (a .body))

@@ -1,24 +1,24 @@
 -- Searches: what the table's search finds, the notebook's search finds. Assumes nothing.
-use mathlib.Core.Path.{_≡_, refl, sym, ap, ap₂, _∙_, subst}
-use mathlib.Core.Logic.{_⊎_, inl, inr, _≢_}
-use mathlib.Core.Bool.{Bool, true, false, not, _&&_, _||_}
-use mathlib.Core.List.{List, [], _∷_, _++_, map, List·Memᴰ, List·Memᴰ·head, List·Memᴰ·tail}
-use Prim.Native.Nat.{ℕ, zero, suc, _+_, _%_, _≤_, _<_, min, max}
+use mathlib.Core.Path.{_≡_, refl, sym, ap, ap₂, _∙_}
+use mathlib.Core.Logic.{_≢_}
+use mathlib.Core.Bool.{Bool, true, false, _&&_, _||_}
+use mathlib.Core.List.{List, [], _∷_, map, List·Memᴰ, List·Memᴰ·head, List·Memᴰ·tail}
+use Prim.Native.Nat.{ℕ, zero, suc, _+_, _%_, _≤_, _<_}
 use native.Mathlib.Omega.{arith}
-use borrow.Author.Tests.{eq-eqb, ne-eqb, eqb-true, eqb-false, lt-ltb}
-use lib.ListN.{length, getD, set, List·getD-map, length-map, length-set}
-use lib.Dec.{leb, ltb, eqb}
-use Rattle.protocol.specs.Bytes.{if, same}
-use Rattle.protocol.specs.Tickets.{ticketText, iouText, aService, aProxy, aWaiting}
+use borrow.Author.Tests.{eqb-true, lt-ltb, ltb-true}
+use lib.ListN.{length, getD, List·getD-map, length-map}
+use lib.Dec.{ltb, eqb}
+use Rattle.protocol.specs.Bytes.{same}
+use Rattle.protocol.specs.Tickets.{aService, aProxy, aWaiting}
 use Rattle.protocol.specs.Records.{Rec, freeRec, nameOf, live}
 use Rattle.protocol.specs.Table.{Table, recAt, slotFrom, slotWhere}
 use Rattle.protocol.specs.Steps.{isNamed, slotNamed, ticketSlot, waitingSlot}
-use Rattle.protocol.proofs.Laws.{both, same-eq, same-refl}
-use Rattle.protocol.proofs.Added.{Chosen, slot-chosen}
+use Rattle.protocol.proofs.Laws.{both, same-eq}
+use Rattle.protocol.proofs.Added.{slot-chosen}
 use Rattle.account.specs.History.{Text}
-use Rattle.account.specs.Notebook.{Fate, held, Line, Notebook, isHeld, Look, found, nothing, lookHere, look, isLine, isTicket, isTicketLine, isWaitingLine}
-use Rattle.account.proofs.Base.{Case, is, isnt, case, clash, untrue, and-yes, or-left, or-right, when, sum, name-serial}
-use Rattle.account.proofs.Sim.{Slot, noLine, noSlot, on, alive, lives, weight, weigh, heft, total, Good, Before, Sim}
+use Rattle.account.specs.Notebook.{Line, Notebook, isHeld, found, nothing, look, isLine, isTicket, isTicketLine, isWaitingLine}
+use Rattle.account.proofs.Base.{Case, is, isnt, case, clash, untrue, and-yes, or-left, or-right, when, name-serial}
+use Rattle.account.proofs.Sim.{Slot, noSlot, on, alive, lives, weight, weigh, heft, total, Sim}
 use Rattle.account.proofs.Edits.{alive-kind, alive-time, alive-is}
 
 abbrev pub recOf : Slot → Rec
@@ -74,7 +74,7 @@ seen q l x e = go (looked q l)
 module _ (L : Notebook) (A : List Slot) (n : ℕ) (S : Sim L A n) (q : Line → Bool) where
   -- a live slot whose line the test picks, and no other's: the notebook finds that line
   pub look-ok : (i : ℕ) → lives (L .clock) A i ≡ true → q (on A i .e) ≡ true
-    → ((j : ℕ) → lives (L .clock) A j ≡ true → q (on A j .e) ≡ true → on A j .r .serial ≡ on A i .r .serial) → look q (L .book) ≡ found (on A i .e)
+      → ((j : ℕ) → lives (L .clock) A j ≡ true → q (on A j .e) ≡ true → on A j .r .serial ≡ on A i .r .serial) → look q (L .book) ≡ found (on A i .e)
   look-ok i l z only = go (looked q (L .book))
     where
       go : Looked q (L .book) → look q (L .book) ≡ found (on A i .e)
@@ -136,8 +136,7 @@ module _ (L : Notebook) (t : Table) (w : Tied L t) (test : Rec → Bool) (q : Li
     (agree : (i : ℕ) → lives (L .clock) (w .A) i ≡ true → q (on (w .A) i .e) ≡ test (on (w .A) i .r))
     (sub : (r : Rec) → test r ≡ true → alive (L .clock) r ≡ true)
     (only : (i j : ℕ) → lives (L .clock) (w .A) i ≡ true → lives (L .clock) (w .A) j ≡ true → q (on (w .A) i .e) ≡ true → q (on (w .A) j .e) ≡ true
-      → on (w .A) i .r .serial ≡ on (w .A) j .r .serial) where
-
+    → on (w .A) i .r .serial ≡ on (w .A) j .r .serial) where
   pub hit-at : (k : ℕ) → test (on (w .A) k .r) ≡ true → Hit L (w .A) k test q
   hit-at k h =
       let l : lives (L .clock) (w .A) k ≡ true = sub (on (w .A) k .r) h in
@@ -164,25 +163,27 @@ module _ (L : Notebook) (t : Table) (w : Tied L t) (test : Rec → Bool) (q : Li
     where
       z : slotWhere test (t .slots) ≡ 0
       z = eqb-true (slotWhere test (t .slots)) 0 e
+
       at : (i : ℕ) → lives (L .clock) (w .A) i ≡ true → test (on (w .A) i .r) ≡ false
       at zero l = absurd (clash l (zero-dead L t w))
       at (suc i) l =
           let lt : suc i < length (w .A) = live-inside (L .clock) (w .A) (suc i) l in
           rw (rec-on L t w (suc i)) at (none-passes test (t .slots) 1 (omega arith) z i (omega (arith, size-is L t w)))
+
       none : (i : ℕ) → lives (L .clock) (w .A) i ≡ true → q (on (w .A) i .e) ≡ false
       none i l = agree i l ∙ at i l
 
 -- two live lines of one text have one serial
 pub same-name : (L : Notebook) (A : List Slot) (n : ℕ) → Sim L A n → (i j : ℕ) → lives (L .clock) A i ≡ true → lives (L .clock) A j ≡ true → on A i .e .name ≡ on A j .e .name
-  → on A i .r .serial ≡ on A j .r .serial
+    → on A i .r .serial ≡ on A j .r .serial
 unfolding nameOf
 same-name L A n S i j li lj e =
     let g = S .good i li in
     let h = S .good j lj in
     name-serial (on A i .r .kind) (on A j .r .kind) (on A i .r .serial) (on A j .r .serial) (on A i .r .secret) (on A j .r .secret)
-      (alive-kind (L .clock) (on A i .r) li) (g .kind-most) (alive-kind (L .clock) (on A j .r) lj) (h .kind-most)
-      (omega (arith, g .young, S .top)) (omega (arith, h .young, S .top))
-      (sym (g .name-eq) ∙ e ∙ h .name-eq)
+    (alive-kind (L .clock) (on A i .r) li) (g .kind-most) (alive-kind (L .clock) (on A j .r) lj) (h .kind-most)
+    (omega (arith, g .young, S .top)) (omega (arith, h .young, S .top))
+    (sym (g .name-eq) ∙ e ∙ h .name-eq)
 
 and-same : (a b : Bool) (x y z : Text) → a && same x z ≡ true → b && same y z ≡ true → x ≡ y
 and-same a b x y z p q = same-eq x z (both a (same x z) p .1) ∙ sym (same-eq y z (both b (same y z) q .1))
@@ -209,10 +210,10 @@ module _ (L : Notebook) (t : Table) (w : Tied L t) where
       let p = both (eqb (r .kind) kind && live (L .clock) r) (same (nameOf r) text) e in
       let q = both (eqb (r .kind) kind) (live (L .clock) r) (p .0) in
       let x = eqb-true (r .kind) kind (q .0) in
-      alive-is (L .clock) r (omega arith) (borrow.Author.Tests.ltb-true (L .clock) (r .expiry) (q .1))
+      alive-is (L .clock) r (omega arith) (ltb-true (L .clock) (r .expiry) (q .1))
 
   named-only : (kind : ℕ) (text : Text) (i j : ℕ) → lives (L .clock) (w .A) i ≡ true → lives (L .clock) (w .A) j ≡ true
-    → isLine kind text (on (w .A) i .e) ≡ true → isLine kind text (on (w .A) j .e) ≡ true → on (w .A) i .r .serial ≡ on (w .A) j .r .serial
+      → isLine kind text (on (w .A) i .e) ≡ true → isLine kind text (on (w .A) j .e) ≡ true → on (w .A) i .r .serial ≡ on (w .A) j .r .serial
   named-only kind text i j li lj p q =
       same-name L (w .A) (w .n) (w .sim) i j li lj (and-same (eqb (on (w .A) i .e .kind) kind) (eqb (on (w .A) j .e .kind) kind) (on (w .A) i .e .name) (on (w .A) j .e .name) text p q)
 
@@ -220,7 +221,7 @@ module _ (L : Notebook) (t : Table) (w : Tied L t) where
   unfolding slotNamed
   hit-named kind text k e =
       rw (w .clock-is)
-        (hit L t w (isNamed (L .clock) kind text) (isLine kind text) (named-agree kind text) (named-sub kind text k) (named-only kind text) (rw (w .clock-is) at e))
+      (hit L t w (isNamed (L .clock) kind text) (isLine kind text) (named-agree kind text) (named-sub kind text k) (named-only kind text) (rw (w .clock-is) at e))
 
   -- a live slot that is so named
   pub hit-slot : (kind : ℕ) (text : Text) → 1 ≤ kind → (k : ℕ) → isNamed (L .clock) kind text (on (w .A) k .r) ≡ true → Hit L (w .A) k (isNamed (L .clock) kind text) (isLine kind text)
@@ -254,7 +255,7 @@ module _ (L : Notebook) (t : Table) (w : Tied L t) where
       go (isnt z) = named-sub aProxy text (omega arith) r (rw z at e)
 
   ticket-only : (text : Text) (i j : ℕ) → lives (L .clock) (w .A) i ≡ true → lives (L .clock) (w .A) j ≡ true
-    → isTicketLine text (on (w .A) i .e) ≡ true → isTicketLine text (on (w .A) j .e) ≡ true → on (w .A) i .r .serial ≡ on (w .A) j .r .serial
+      → isTicketLine text (on (w .A) i .e) ≡ true → isTicketLine text (on (w .A) j .e) ≡ true → on (w .A) i .r .serial ≡ on (w .A) j .r .serial
   ticket-only text i j li lj p q =
       same-name L (w .A) (w .n) (w .sim) i j li lj (and-same (isTicket (on (w .A) i .e .kind)) (isTicket (on (w .A) j .e .kind)) (on (w .A) i .e .name) (on (w .A) j .e .name) text p q)
 
@@ -280,7 +281,7 @@ module _ (L : Notebook) (t : Table) (w : Tied L t) where
       let p = both (eqb (r .kind) aWaiting && live (L .clock) r) (eqb (r .serial) serial) e in
       let q = both (eqb (r .kind) aWaiting) (live (L .clock) r) (p .0) in
       let x = eqb-true (r .kind) 5 (q .0) in
-      alive-is (L .clock) r (omega arith) (borrow.Author.Tests.ltb-true (L .clock) (r .expiry) (q .1))
+      alive-is (L .clock) r (omega arith) (ltb-true (L .clock) (r .expiry) (q .1))
 
   waiting-ref : (serial : ℕ) (i : ℕ) → lives (L .clock) (w .A) i ≡ true → isWaitingLine serial (on (w .A) i .e) ≡ true → on (w .A) i .r .serial ≡ serial
   waiting-ref serial i l e =
@@ -289,7 +290,7 @@ module _ (L : Notebook) (t : Table) (w : Tied L t) where
       sym (w .sim .good i l .ref-eq k) ∙ eqb-true (on (w .A) i .e .ref) serial (p .1)
 
   waiting-only : (serial : ℕ) (i j : ℕ) → lives (L .clock) (w .A) i ≡ true → lives (L .clock) (w .A) j ≡ true
-    → isWaitingLine serial (on (w .A) i .e) ≡ true → isWaitingLine serial (on (w .A) j .e) ≡ true → on (w .A) i .r .serial ≡ on (w .A) j .r .serial
+      → isWaitingLine serial (on (w .A) i .e) ≡ true → isWaitingLine serial (on (w .A) j .e) ≡ true → on (w .A) i .r .serial ≡ on (w .A) j .r .serial
   waiting-only serial i j li lj p q = waiting-ref serial i li p ∙ sym (waiting-ref serial j lj q)
 
   pub hit-waiting : (serial : ℕ) → eqb (waitingSlot serial t) 0 ≡ false → Hit L (w .A) (waitingSlot serial t) (isWaitingOf (L .clock) serial) (isWaitingLine serial)

@@ -1,26 +1,24 @@
 -- New records: the line that the notebook enters stands for the record that the table adds. Assumes nothing.
-use mathlib.Core.Path.{_≡_, refl, sym, ap, ap₂, _∙_, subst}
-use mathlib.Core.Logic.{_⊎_, inl, inr, _≢_}
-use mathlib.Core.Bool.{Bool, true, false, not, _&&_, _||_}
-use mathlib.Core.List.{List, [], _∷_, _++_, map, List·Memᴰ}
-use Prim.Native.Nat.{ℕ, zero, suc, _+_, _%_, _≤_, _<_, min, max}
+use mathlib.Core.Path.{_≡_, refl, sym, _∙_}
+use mathlib.Core.Logic.{_≢_}
+use mathlib.Core.Bool.{Bool, true, false, not}
+use mathlib.Core.List.{List, [], List·Memᴰ}
+use Prim.Native.Nat.{ℕ, suc, _+_, _≤_, min}
 use native.Mathlib.Omega.{arith}
-use borrow.Author.Tests.{eq-eqb, ne-eqb, eqb-true, eqb-false}
-use lib.ListN.{length, getD, set}
-use lib.Dec.{leb, ltb, eqb}
-use Rattle.protocol.specs.Bytes.{if, same}
-use Rattle.protocol.specs.Tickets.{ticketText, iouText, iouFrom, lifetime, aLogin, aSession}
-use Rattle.protocol.specs.Records.{Rec, freeRec, nameOf, live}
-use Rattle.protocol.specs.Table.{Table, tableOf, recAt}
-use Rattle.protocol.specs.Steps.{slotFor, expiryFor, newRec, add}
-use Rattle.protocol.proofs.Laws.{both, same-eq, same-refl}
+use borrow.Author.Tests.{ne-eqb}
+use lib.Dec.{eqb}
+use Rattle.protocol.specs.Bytes.{if}
+use Rattle.protocol.specs.Tickets.{iouText, iouFrom, lifetime, aLogin, aSession}
+use Rattle.protocol.specs.Records.{Rec, nameOf}
+use Rattle.protocol.specs.Table.{Table}
+use Rattle.protocol.specs.Steps.{expiryFor, newRec, add}
 use Rattle.protocol.proofs.Added.{Room}
 use Rattle.account.specs.History.{Text}
-use Rattle.account.specs.Notebook.{held, Line, Notebook, isHeld, enter, loginLine, sessionLine, lineUnder}
-use Rattle.account.proofs.Base.{Case, is, isnt, case, clash, name-serial}
-use Rattle.account.proofs.Sim.{Slot, noLine, noSlot, on, alive, lives, Above, Up, upOf, deep, Under, Placed, login, session, below, Good, Before, Sim}
-use Rattle.account.proofs.Edits.{alive-kind, alive-time, alive-is, under-of}
-use Rattle.account.proofs.Look.{recOf, Tied, live-inside, rec-on, size-is, zero-dead}
+use Rattle.account.specs.Notebook.{Line, Notebook, enter, loginLine, sessionLine, lineUnder}
+use Rattle.account.proofs.Base.{clash, name-serial}
+use Rattle.account.proofs.Sim.{Slot, on, lives, Up, deep, Under, Placed, login, session, below, Good}
+use Rattle.account.proofs.Edits.{alive-time, alive-is}
+use Rattle.account.proofs.Look.{Tied, rec-on, zero-dead}
 use Rattle.account.proofs.Tables.{serial-is, tied-add}
 
 -- no line of the notebook has this text, or this number
@@ -37,7 +35,7 @@ new-text L t w h r s lo hi e m x =
     let b = w .sim .old e m in
     let i = serial-is L t w h in
     let z : b .serial ≡ r .serial =
-          name-serial (b .kind) (r .kind) (b .serial) (r .serial) (b .secret) (r .secret) (b .some) (b .known) lo hi (omega (arith, b .below)) (omega arith) (sym (b .is-name) ∙ x) in
+    name-serial (b .kind) (r .kind) (b .serial) (r .serial) (b .secret) (r .secret) (b .some) (b .known) lo hi (omega (arith, b .below)) (omega arith) (sym (b .is-name) ∙ x) in
     omega (arith, b .below)
 
 pub new-ref : (L : Notebook) (t : Table) (w : Tied L t) → 1 ≤ t .next → NewRef L (t .next)
@@ -54,19 +52,19 @@ tied-login L t w m random =
     let r : Rec = newRec aLogin 0 0 0 0 [] random t in
     let a : Slot = record { r = r; e = loginLine (nameOf r) (L .clock) } in
     tied-add L t w m a (alive-is (L .clock) r (omega arith) (omega (arith, w .clock-is))) (i .0) (omega arith)
-      (record {
-        kind-eq = refl;
-        kind-most = omega arith;
-        name-eq = refl;
-        ref-eq = λ x. absurd (omega arith);
-        iou-eq = λ x. absurd (omega arith);
-        expiry-eq = rw (w .clock-is);
-        text-eq = refl;
-        mark-eq = refl;
-        fate-eq = refl;
-        young = omega arith;
-        placed = login refl refl;
-      })
+    (record {
+      kind-eq = refl;
+      kind-most = omega arith;
+      name-eq = refl;
+      ref-eq = λ x. absurd (omega arith);
+      iou-eq = λ x. absurd (omega arith);
+      expiry-eq = rw (w .clock-is);
+      text-eq = refl;
+      mark-eq = refl;
+      fate-eq = refl;
+      young = omega arith;
+      placed = login refl refl;
+    })
 
 -- a session
 pub tied-session : (L : Notebook) (t : Table) (w : Tied L t) → Room t → (user random : List ℕ)
@@ -77,19 +75,19 @@ tied-session L t w m user random =
     let r : Rec = newRec aSession 0 0 0 0 user random t in
     let a : Slot = record { r = r; e = sessionLine (nameOf r) user (L .clock) } in
     tied-add L t w m a (alive-is (L .clock) r (omega arith) (omega (arith, w .clock-is))) (i .0) (omega arith)
-      (record {
-        kind-eq = refl;
-        kind-most = omega arith;
-        name-eq = refl;
-        ref-eq = λ x. absurd (omega arith);
-        iou-eq = λ x. absurd (omega arith);
-        expiry-eq = rw (w .clock-is);
-        text-eq = refl;
-        mark-eq = refl;
-        fate-eq = refl;
-        young = omega arith;
-        placed = session refl refl refl refl (rw (w .clock-is));
-      })
+    (record {
+      kind-eq = refl;
+      kind-most = omega arith;
+      name-eq = refl;
+      ref-eq = λ x. absurd (omega arith);
+      iou-eq = λ x. absurd (omega arith);
+      expiry-eq = rw (w .clock-is);
+      text-eq = refl;
+      mark-eq = refl;
+      fate-eq = refl;
+      young = omega arith;
+      placed = session refl refl refl refl (rw (w .clock-is));
+    })
 
 -- what a new line takes from the line of its session, or of a ticket or grant under it
 pub record Source (A : List Slot) (s : ℕ) (src : Line) : Type 0 where
@@ -115,7 +113,6 @@ module _ (L : Notebook) (t : Table) (w : Tied L t) (m : Room t) (s : ℕ) (ls : 
     (lo : 3 ≤ kind) (hi : kind ≤ 5) (lasts : 1 ≤ lifetime kind) (marked : mk ≡ not (eqb mark 0))
     (numbered : kind ≡ 5 → ref ≡ t .next) (small : ref ≤ t .next) (owes : kind ≡ 5 → iou ≡ iouText (iouFrom kind random))
     (line : Up (w .A) (if (eqb kind 3) 0 parent) s chain) (falls : 5 ≤ kind → depth ≡ suc (deep (w .A) (if (eqb kind 3) 0 parent))) where
-
   some-session : eqb s 0 ≡ false
   some-session = ne-eqb s 0 (λ e. clash (rw e at ls) (zero-dead L t w))
 
@@ -139,7 +136,7 @@ module _ (L : Notebook) (t : Table) (w : Tied L t) (m : Room t) (s : ℕ) (ls : 
         fate-eq = refl;
         young = omega arith;
         placed =
-          below lo
+            below lo
             (record {
               home = so .home;
               sess-eq = so .sess-eq;
@@ -157,4 +154,4 @@ module _ (L : Notebook) (t : Table) (w : Tied L t) (m : Room t) (s : ℕ) (ls : 
   tied-under =
       let i = serial-is L t w (m .serial) in
       tied-add L t w m (record { r = newRec kind mark parent s depth text random t; e = lineUnder kind (nameOf (newRec kind mark parent s depth text random t)) ref text chain mk origin iou (L .clock) src })
-        (alive-is (L .clock) (newRec kind mark parent s depth text random t) (omega arith) (omega (arith, expiry-is, alive-time (L .clock) (on (w .A) s .r) ls))) (i .0) (omega arith) under-good
+      (alive-is (L .clock) (newRec kind mark parent s depth text random t) (omega arith) (omega (arith, expiry-is, alive-time (L .clock) (on (w .A) s .r) ls))) (i .0) (omega arith) under-good

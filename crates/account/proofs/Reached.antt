@@ -1,8 +1,8 @@
 -- What is owed for each thing said, by the notebook just before it, and the trail that a table has reached. Assumes nothing.
-use mathlib.Core.Path.{_≡_, refl, sym, ap, ap₂, _∙_, subst}
-use mathlib.Core.Bool.{Bool, true, false, not, _&&_, _||_}
-use mathlib.Core.List.{List, [], _∷_, _++_, map}
-use Prim.Native.Nat.{ℕ, zero, suc, _+_}
+use mathlib.Core.Path.{_≡_}
+use mathlib.Core.Bool.{Bool, true, false}
+use mathlib.Core.List.{List, [], _∷_}
+use Prim.Native.Nat.{ℕ}
 use lib.Dec.{eqb}
 use Rattle.protocol.specs.Bytes.{if, ascii}
 use Rattle.protocol.specs.Tickets.{aSession, aProxy, aGrant}
@@ -12,7 +12,7 @@ use Rattle.protocol.specs.Steps.{isPlain, takesProxies}
 use Rattle.protocol.specs.declared.Validator.{Validator}
 use Rattle.account.specs.History.{Text}
 use Rattle.account.specs.Reading.{Item, Passed, Showed, Spent, Ended, Opened, Issued, Proxied, Burnt, Welcomed, CalledBack, Settled}
-use Rattle.account.specs.Notebook.{Line, Notebook, Look, found, nothing, look, isLine, isTicketLine, isWaitingLine, notebook}
+use Rattle.account.specs.Notebook.{Line, found, look, isLine, isTicketLine, isWaitingLine, notebook}
 use Rattle.account.specs.Truth.{spentLive}
 use Rattle.account.proofs.Look.{Tied}
 use Rattle.account.proofs.Making.{New, NewRef}

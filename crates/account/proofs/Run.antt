@@ -1,43 +1,44 @@
 -- From one call to a whole run: after any calls the table stands at the trail of its history. Assumes nothing.
-use mathlib.Core.Path.{_≡_, refl, sym, ap, ap₂, _∙_, subst}
-use mathlib.Core.Bool.{Bool, true, false, not, _&&_, _||_}
-use mathlib.Core.List.{List, [], _∷_, _++_, map, List·Memᴰ, List·Memᴰ·not-nil}
-use Prim.Native.Nat.{ℕ, zero, suc, _+_, _-_, _/_, _%_, _≤_, _<_}
+use mathlib.Core.Path.{_≡_, refl, ap}
+use mathlib.Core.Bool.{true, false}
+use mathlib.Core.List.{List, [], _∷_, _++_, map, List·Memᴰ·not-nil}
+use Prim.Native.Nat.{ℕ, zero, suc, _+_, _-_, _/_, _%_, _≤_}
 use native.Mathlib.Omega.{arith}
 use borrow.Author.Tests.{eqb-true, leb-true}
 use lib.Dec.{eqb, leb}
-use lib.ListN.{length, take, getD, replicate}
-use Rattle.protocol.specs.Bytes.{if, within, spliced}
+use lib.ListN.{length, replicate}
+use Rattle.protocol.specs.Bytes.{within}
 use Rattle.protocol.specs.Records.{Rec, freeRec}
 use Rattle.protocol.specs.Table.{Table, encodeTable, decodeTable, tableShape, tableLawful, lastTime, formatted}
 use Rattle.protocol.specs.Request.{pathPart, pathNamed}
 use Rattle.protocol.specs.Answers.{replyText, replyAnswer}
 use Rattle.protocol.specs.Steps.{Step, tick, finish}
-use Rattle.protocol.specs.Calls.{Inputs, Result, inputs, refusal, stepOf, outcomeOf, delivered, unchanged, answerOf, finishRefusal, finishOf, formatRefusal, formatOf}
+use Rattle.protocol.specs.Calls.{Inputs, Result, inputs, refusal, stepOf, outcomeWith, delivered, unchanged, answerOf, finishRefusal, finishOf, formatRefusal, formatOf}
 use Rattle.protocol.specs.declared.Path.{Path}
 use Rattle.protocol.specs.declared.Path.the-variants as path
+use Rattle.protocol.specs.declared.Answer.{Answer}
 use Rattle.protocol.specs.declared.Answer.the-variants as answer
 use Rattle.protocol.proofs.Laws.{both, table-back}
 use Rattle.protocol.proofs.Sound.{Sound, tick-sound}
 use Rattle.protocol.proofs.TicketSound.{finish-sound}
-use Rattle.protocol.proofs.Lasting.{lawful-sound, passes, Passed, passed, step-sound, formatted-sound}
+use Rattle.protocol.proofs.Lasting.{lawful-sound, passes, passed, step-sound, formatted-sound}
 use Rattle.account.specs.History.{Text, Asked, Told, Call, ask, tell, served, Event, eventOf, tableAfter, historyOf}
 use Rattle.account.specs.Reading.{Item, Passed as PassedAt, readAsked, readFinish, readCall, read, trailOf}
-use Rattle.account.specs.Notebook.{Line, Notebook, blank, notebook}
-use Rattle.account.specs.Account.{one, carriesTicket, accepts, issuedBy, acceptedBy, issued, accepted}
-use Rattle.account.proofs.Base.{Case, is, isnt, case, clash, fork, when, sum}
-use Rattle.account.proofs.Sim.{Slot, noLine, noSlot, on, lives, weigh, Sim}
+use Rattle.account.specs.Notebook.{Line, blank, notebook}
+use Rattle.account.specs.Account.{one, accepts, issuedBy, acceptedBy, issued, accepted}
+use Rattle.account.proofs.Base.{Case, is, isnt, case, clash, fork}
+use Rattle.account.proofs.Sim.{noSlot, on, lives, weigh}
 use Rattle.account.proofs.Look.{recOf, Tied}
 use Rattle.account.proofs.Reached.{Reached}
 use Rattle.account.proofs.Items.{reach-pass}
 use Rattle.account.proofs.Texts.{append-assoc, said-is}
-use Rattle.account.proofs.Counts.{Ok, issuesIn, acceptsIn, sumIn, sum-append}
-use Rattle.account.proofs.Validators.{finish-ok}
-use Rattle.account.proofs.Others.{request-ok}
+use Rattle.account.proofs.Counts.{Ok, sum-append}
+use Rattle.account.specs.Account.{issuesIn, acceptsIn, sumIn}
+use Rattle.account.proofs.Others.{finish-ok, request-ok}
 
 -- what is read of a delivered step
 read-delivered : (c : Call) (s : Step) (out cookie : Text) → read (eventOf c (delivered s out cookie)) ≡ readCall c (replyAnswer (s .reply)) (replyText (s .reply)) (s .cookie) (s .cleared)
-unfolding read eventOf delivered outcomeOf
+unfolding read eventOf delivered outcomeWith
 read-delivered c s out cookie = rw (said-is out (replyText (s .reply)), said-is cookie (s .cookie))
 
 -- a sound table is read back as it was written
@@ -80,14 +81,14 @@ module _ (start : ℕ) (h : List Item) (b : Text) (R : Reached start h (decodeTa
   stepped = request-ok start (PassedAt (a .time) ∷ h) (tick (a .time) (decodeTable b)) (reach-pass start h (decodeTable b) R (a .time)) a (a .method) p
 
   answered : refusal i ≡ 0 → After start h (ask a) (delivered (stepOf i) (a .out) (a .cookieOut))
-  unfolding delivered outcomeOf issuedBy acceptedBy readCall
+  unfolding delivered outcomeWith issuedBy acceptedBy readCall
   answered e =
       let s : Step = stepOf i in
       let items : List Item = readAsked (a .method) p a (replyAnswer (s .reply)) (replyText (s .reply)) (s .cookie) (s .cleared) in
       let o = stepped in
       record {
         reached =
-          rw (read-delivered (ask a) s (a .out) (a .cookieOut), back (s .table) (step-sound i (passed i e)), append-assoc items (PassedAt (a .time) ∷ []) h) (o .reached);
+            rw (read-delivered (ask a) s (a .out) (a .cookieOut), back (s .table) (step-sound i (passed i e)), append-assoc items (PassedAt (a .time) ∷ []) h) (o .reached);
         issues = rw (read-delivered (ask a) s (a .out) (a .cookieOut)) (omega (arith, o .issues, sum-append issuesIn items (PassedAt (a .time) ∷ [])));
         accepts-eq = rw (read-delivered (ask a) s (a .out) (a .cookieOut)) (omega (arith, o .accepts-eq, sum-append acceptsIn items (PassedAt (a .time) ∷ [])));
       }
@@ -110,7 +111,7 @@ module _ (start : ℕ) (h : List Item) (b : Text) (R : Reached start h (decodeTa
       let p6 = passes (leb (f .time) lastTime) 6 0 (omega arith) (p4 .1) in
       tick-sound (f .time) (decodeTable b) (leb-true (f .time) lastTime (p6 .0)) (lawful-sound b (p1 .0) (p2 .0))
 
-  no-counts : (r : Rattle.protocol.specs.declared.Answer.Answer) (said : Text) → (sumIn issuesIn (readFinish f r said) ≡ 0) × (sumIn acceptsIn (readFinish f r said) ≡ 0)
+  no-counts : (r : Answer) (said : Text) → (sumIn issuesIn (readFinish f r said) ≡ 0) × (sumIn acceptsIn (readFinish f r said) ≡ 0)
   unfolding readFinish
   no-counts answer.Nothing said = (refl, refl)
   no-counts (answer.Page status) said = (refl, refl)
@@ -121,14 +122,14 @@ module _ (start : ℕ) (h : List Item) (b : Text) (R : Reached start h (decodeTa
   no-counts (answer.Callback n) said = (refl, refl)
 
   told : finishRefusal b (f .time) (length (f .out)) ≡ 0 → After start h (tell f) (delivered (finish (f .serial) (f .outcome) t) (f .out) [])
-  unfolding delivered outcomeOf issuedBy acceptedBy readCall
+  unfolding delivered outcomeWith issuedBy acceptedBy readCall
   told e =
       let s : Step = finish (f .serial) (f .outcome) t in
       let items : List Item = readFinish f (replyAnswer (s .reply)) (replyText (s .reply)) in
       let n = no-counts (replyAnswer (s .reply)) (replyText (s .reply)) in
       record {
         reached =
-          rw (read-delivered (tell f) s (f .out) [], back (s .table) (finish-sound (f .serial) (f .outcome) t (finish-started e)), append-assoc items (PassedAt (f .time) ∷ []) h)
+            rw (read-delivered (tell f) s (f .out) [], back (s .table) (finish-sound (f .serial) (f .outcome) t (finish-started e)), append-assoc items (PassedAt (f .time) ∷ []) h)
             (finish-ok start (PassedAt (f .time) ∷ h) t (reach-pass start h (decodeTable b) R (f .time)) f);
         issues = rw (read-delivered (tell f) s (f .out) []) (omega (arith, n .0, sum-append issuesIn items (PassedAt (f .time) ∷ [])));
         accepts-eq = rw (read-delivered (tell f) s (f .out) []) (omega (arith, n .1, sum-append acceptsIn items (PassedAt (f .time) ∷ [])));
@@ -138,7 +139,7 @@ module _ (start : ℕ) (h : List Item) (b : Text) (R : Reached start h (decodeTa
   unfolding finishOf
   tell-after =
       fork (After start h (tell f)) (eqb (finishRefusal b (f .time) (length (f .out))) 0) (λ e. told (eqb-true (finishRefusal b (f .time) (length (f .out))) 0 e))
-        (λ e. refused start h (tell f) (finishRefusal b (f .time) (length (f .out))) b (f .out) [] e R)
+      (λ e. refused start h (tell f) (finishRefusal b (f .time) (length (f .out))) b (f .out) [] e R)
 
 call-after : (start : ℕ) (h : List Item) (b : Text) → Reached start h (decodeTable b) → (c : Call) → After start h c (served c b)
 unfolding served
@@ -191,15 +192,15 @@ start-tied n time =
       clock-is = refl;
       next-is = refl;
       sim =
-        record {
-          sums = λ f. free-weigh time f (suc n);
-          known = λ e m h. absurd (List·Memᴰ·not-nil m);
-          good = λ i l. absurd (none-lives time (suc n) i l);
-          one = λ i j l k e. absurd (none-lives time (suc n) i l);
-          old = λ e m. absurd (List·Memᴰ·not-nil m);
-          refs = λ e m. absurd (List·Memᴰ·not-nil m);
-          top = omega arith;
-        };
+          record {
+            sums = λ f. free-weigh time f (suc n);
+            known = λ e m h. absurd (List·Memᴰ·not-nil m);
+            good = λ i l. absurd (none-lives time (suc n) i l);
+            one = λ i j l k e. absurd (none-lives time (suc n) i l);
+            old = λ e m. absurd (List·Memᴰ·not-nil m);
+            refs = λ e m. absurd (List·Memᴰ·not-nil m);
+            top = omega arith;
+          };
     }
 
 not-refused : (old : Text) (time : ℕ) → formatOf old time .refusal ≡ 0 → formatRefusal (length old) time ≡ 0
@@ -219,4 +220,4 @@ started old time e =
     let q = both (leb 9 (length old / 512)) (leb (length old / 512) 128) (both (eqb (length old % 512) 0) (within 9 128 (length old / 512)) (p1 .0) .1) in
     let few : length old / 512 - 1 ≤ 127 = omega (arith, leb-true (length old / 512) 128 (q .1)) in
     rw (z, back (formatted (length old / 512 - 1) time) (formatted-sound (length old / 512 - 1) time few (leb-true time lastTime (p6 .0))))
-      (record { tied = start-tied (length old / 512 - 1) time; paid = tt })
+    (record { tied = start-tied (length old / 512 - 1) time; paid = tt })

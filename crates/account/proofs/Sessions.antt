@@ -1,40 +1,36 @@
 -- A session ends with all that stands under it, and a waiting grant becomes a grant: the table stays tied to the notebook. Assumes nothing.
-use mathlib.Core.Path.{_≡_, refl, sym, ap, ap₂, _∙_, subst}
-use mathlib.Core.Logic.{_⊎_, inl, inr, _≢_}
+use mathlib.Core.Path.{_≡_, refl, sym, ap, _∙_}
+use mathlib.Core.Logic.{_≢_}
 use mathlib.Core.Bool.{Bool, true, false, not, _&&_, _||_}
-use mathlib.Core.List.{List, [], _∷_, _++_, map, List·Memᴰ}
-use Prim.Native.Nat.{ℕ, zero, suc, _+_, _%_, _≤_, _<_, min, max}
+use mathlib.Core.List.{List, [], _∷_, map}
+use Prim.Native.Nat.{ℕ, zero, suc, _≤_, _<_}
 use native.Mathlib.Omega.{arith}
 use native.Mathlib.Decide.{ℕ-discrete}
-use borrow.Author.Tests.{eq-eqb, ne-eqb, eqb-true, eqb-false, lt-ltb, ltb-true, not-true, not-false}
+use borrow.Author.Tests.{eq-eqb, ne-eqb, eqb-true, eqb-false}
 use lib.ListN.{length, getD, set, List·getD-map, length-map, length-set}
 use lib.Seq.{getD-set-same, getD-set-other}
-use lib.Dec.{leb, ltb, eqb}
-use Rattle.protocol.specs.Bytes.{if, same, zeros}
-use Rattle.protocol.specs.Tickets.{ticketText, iouText, aLogin, aSession, aWaiting, aGrant}
+use lib.Dec.{eqb}
+use Rattle.protocol.specs.Bytes.{same, zeros}
+use Rattle.protocol.specs.Tickets.{ticketText, aLogin, aSession, aGrant}
 use Rattle.protocol.specs.Records.{Rec, freeRec, nameOf, live}
-use Rattle.protocol.specs.Table.{Table, tableOf, recAt, putAt}
-use Rattle.protocol.specs.Steps.{put, remove, endRec, endSession, isNamed, slotNamed, sessionOf, granted, waitingSlot}
-use Rattle.protocol.proofs.Laws.{both, same-eq, same-refl}
+use Rattle.protocol.specs.Table.{Table, recAt}
+use Rattle.protocol.specs.Steps.{put, endRec, endSession, sessionOf, granted, waitingSlot}
+use Rattle.protocol.proofs.Laws.{same-eq, same-refl}
 use Rattle.account.specs.History.{Text}
-use Rattle.account.specs.Notebook.{Fate, held, ended, spent, Line, Notebook, isHeld, close, closeLine, closeAll, raise, raiseLine, raiseAll, isLine, isWaitingLine, ofSession}
-use Rattle.account.proofs.Base.{Case, is, isnt, case, clash, one-test, untrue, and-not, or-left, or-right, name-serial}
-use Rattle.account.proofs.Sim.{Slot, noLine, noSlot, on, alive, lives, Above, Up, upOf, deep, Under, Placed, login, session, below, Good, Before, Sim, through}
-use Rattle.account.proofs.Edits.{alive-kind, alive-time, alive-is, under-of, home-lives, parent-lives, up-grants, sim-drop, sim-change}
-use Rattle.account.proofs.Look.{recOf, Tied, live-inside, rec-on, size-is, zero-dead, same-name, Hit, Miss, isWaitingOf, hit-named, miss-named, hit-waiting, waiting-kind, named-kind, named-name}
-use Rattle.account.proofs.Tables.{map-set, put-slots, tied-none, tied-remove, some-slot}
+use Rattle.account.specs.Notebook.{ended, Notebook, closeAll, raise, raiseLine, raiseAll, nothing, look, isLine, isWaitingLine, ofSession}
+use Rattle.account.proofs.Base.{if-same, clash, one-test}
+use Rattle.account.proofs.Sim.{Slot, noLine, noSlot, on, alive, lives, upOf, Under, Placed, login, session, below, Good}
+use Rattle.account.proofs.Edits.{raise-name, raise-ref, alive-time, alive-is, under-of, home-lives, up-grants, sim-drop, sim-change}
+use Rattle.account.proofs.Look.{recOf, Tied, live-inside, rec-on, zero-dead, same-name, look-no, Miss, hit-named, miss-named, hit-waiting, waiting-kind, named-kind, named-name}
+use Rattle.account.proofs.Tables.{put-slots, tied-none, some-slot}
 
 endS : ℕ → Slot → Slot
 endS s a = record { r = endRec s (a .r); e = a .e }
 
-if-same : (b : Bool) → if b freeRec freeRec ≡ freeRec
-if-same true = refl
-if-same false = refl
-
 on-end : (s : ℕ) (A : List Slot) (i : ℕ) → on (map (endS s) A) i ≡ endS s (on A i)
 unfolding endS
 on-end s A i =
-    let d : endS s noSlot ≡ noSlot = ap (λ (b : Rec). record { r = b; e = noLine }) (if-same (eqb 0 s)) in
+    let d : endS s noSlot ≡ noSlot = ap (λ (b : Rec). record { r = b; e = noLine }) (if-same (eqb 0 s) freeRec) in
     ap (λ (d : Slot). getD (map (endS s) A) i d) (sym d) ∙ List·getD-map (endS s) A i noSlot
 
 map-end : (s : ℕ) (A : List Slot) → map (endRec s) (map recOf A) ≡ map recOf (map (endS s) A)
@@ -43,7 +39,7 @@ map-end s [] = refl
 map-end s (a ∷ A) = ap (λ (l : List Rec). endRec s (a .r) ∷ l) (map-end s A)
 
 end-slots : (s : ℕ) (slots : List Rec) (A : List Slot) → freeRec ∷ slots ≡ map recOf A → freeRec ∷ map (endRec s) slots ≡ map recOf (map (endS s) A)
-end-slots s slots A e = ap (λ (r : Rec). r ∷ map (endRec s) slots) (sym (if-same (eqb 0 s))) ∙ ap (map (endRec s)) e ∙ map-end s A
+end-slots s slots A e = ap (λ (r : Rec). r ∷ map (endRec s) slots) (sym (if-same (eqb 0 s) freeRec)) ∙ ap (map (endRec s)) e ∙ map-end s A
 
 -- a session's own record names no session
 session-free : (A : List Slot) (a : Slot) → Placed A a → a .r .kind ≡ 2 → a .r .session ≡ 0
@@ -96,19 +92,23 @@ module _ (L : Notebook) (t : Table) (w : Tied L t) (s : ℕ) (ls : lives (L .clo
     where
       g : Good (w .A) (w .n) (on (w .A) i)
       g = w .sim .good i l
+
       zero-other : eqb 0 s ≡ false
       zero-other = ne-eqb 0 s (λ e. omega (arith, some))
+
       -- the texts of two live sessions
       sessions : (j : ℕ) → lives (L .clock) (w .A) j ≡ true → same (nameOf (on (w .A) j .r)) (nameOf (on (w .A) s .r)) ≡ eqb j s
       sessions j lj =
           one-test (same (nameOf (on (w .A) j .r)) (nameOf (on (w .A) s .r))) (eqb j s)
-            (λ x.
-              eq-eqb j s
-                (w .sim .one j s lj ls
-                  (same-name L (w .A) (w .n) (w .sim) j s lj ls (w .sim .good j lj .name-eq ∙ same-eq (nameOf (on (w .A) j .r)) (nameOf (on (w .A) s .r)) x ∙ sym (w .sim .good s ls .name-eq)))))
-            (λ x. rw (eqb-true j s x) (same-refl (nameOf (on (w .A) s .r))))
+          (λ x.
+          eq-eqb j s
+          (w .sim .one j s lj ls
+          (same-name L (w .A) (w .n) (w .sim) j s lj ls (w .sim .good j lj .name-eq ∙ same-eq (nameOf (on (w .A) j .r)) (nameOf (on (w .A) s .r)) x ∙ sym (w .sim .good s ls .name-eq)))))
+          (λ x. rw (eqb-true j s x) (same-refl (nameOf (on (w .A) s .r))))
+
       other-slot : on (w .A) i .r .kind ≢ 2 → eqb i s ≡ false
       other-slot ne = ne-eqb i s (λ e. ne (rw e ks))
+
       go : Placed (w .A) (on (w .A) i) → (not (eqb (on (w .A) i .r .kind) aLogin) && same (on (w .A) i .e .session) (nameOf (on (w .A) s .r))) ≡ (eqb i s || eqb (on (w .A) i .r .session) s)
       go (login k x) = rw (k, x, zero-other, other-slot (λ e. omega arith))
       go (session k x n u v) = rw (k, x, zero-other, n, sessions i l) (or-none (eqb i s))
@@ -144,7 +144,7 @@ module _ (L : Notebook) (t : Table) (w : Tied L t) (s : ℕ) (ls : lives (L .clo
         clock-is = w .clock-is;
         next-is = w .next-is;
         sim =
-          sim-drop L (w .A) rest (w .n) (w .sim) goes (ofSession (nameOf (on (w .A) s .r))) ended refl (length-set (map (endS s) (w .A)) s noSlot ∙ length-map (w .A) (endS s)) rest-keep rest-gone
+            sim-drop L (w .A) rest (w .n) (w .sim) goes (ofSession (nameOf (on (w .A) s .r))) ended refl (length-set (map (endS s) (w .A)) s noSlot ∙ length-map (w .A) (endS s)) rest-keep rest-gone
             agree homes parents;
       }
 
@@ -161,11 +161,13 @@ module _ (L : Notebook) (t : Table) (w : Tied L t) (cookie : Text) where
     where
       m : Miss L (w .A) (isLine aSession cookie)
       m = miss-named L t w aSession cookie (omega arith) e
+
       -- no live session has that text, so nothing stands under it
       unnamed : (j : ℕ) → lives (L .clock) (w .A) j ≡ true → on (w .A) j .r .kind ≡ 2 → same (nameOf (on (w .A) j .r)) cookie ≡ false
       unnamed j lj k =
           let z = m .all j lj in
           rw (w .sim .good j lj .kind-eq, w .sim .good j lj .name-eq, k) at z
+
       all : (i : ℕ) → lives (L .clock) (w .A) i ≡ true → ofSession cookie (on (w .A) i .e) ≡ false
       all i l = rw (w .sim .good i l .kind-eq) (go (w .sim .good i l .placed))
         where
@@ -175,24 +177,11 @@ module _ (L : Notebook) (t : Table) (w : Tied L t) (cookie : Text) where
           go (below k u) =
               let z : eqb (on (w .A) i .r .kind) aLogin ≡ false = ne-eqb (on (w .A) i .r .kind) 1 (λ e. omega arith) in
               rw (z, u .sess-eq, unnamed (on (w .A) i .r .session) (home-lives (L .clock) (w .A) (on (w .A) i) u (alive-time (L .clock) (on (w .A) i .r) l)) (u .home))
-      look-all : Rattle.account.specs.Notebook.look (ofSession cookie) (L .book) ≡ Rattle.account.specs.Notebook.nothing
-      look-all = Rattle.account.proofs.Look.look-no L (w .A) (w .n) (w .sim) (ofSession cookie) all
+
+      look-all : look (ofSession cookie) (L .book) ≡ nothing
+      look-all = look-no L (w .A) (w .n) (w .sim) (ofSession cookie) all
 
 -- A waiting grant becomes a grant
-raise-name : (q : Line → Bool) (e : Line) → raiseLine q e .name ≡ e .name
-raise-name q e = go (isHeld (e .fate) && q e)
-  where
-    go : (b : Bool) → if b (raise e) e .name ≡ e .name
-    go true = refl
-    go false = refl
-
-raise-ref : (q : Line → Bool) (e : Line) → raiseLine q e .ref ≡ e .ref
-raise-ref q e = go (isHeld (e .fate) && q e)
-  where
-    go : (b : Bool) → if b (raise e) e .ref ≡ e .ref
-    go true = refl
-    go false = refl
-
 -- both kinds have one prefix and one length of secret
 grant-name : (r : Rec) → r .kind ≡ 5 → nameOf r ≡ ticketText 6 (r .serial) (r .secret)
 unfolding nameOf ticketText
@@ -281,12 +270,12 @@ tied-raise L t w serial e =
       A = set (w .A) k a;
       n = w .n;
       slots-are =
-        rw (raised-is L t w k)
+          rw (raised-is L t w k)
           (put-slots (t .slots) (w .A) k a (w .slots-are) (some-slot L t w k (h .live) (λ x. omega arith) (λ x. omega arith)));
       clock-is = w .clock-is;
       next-is = w .next-is;
       sim =
-        sim-change L (w .A) (w .n) (w .sim) k (live-inside (L .clock) (w .A) k (h .live)) (h .live) kind a
+          sim-change L (w .A) (w .n) (w .sim) k (live-inside (L .clock) (w .A) k (h .live)) (h .live) kind a
           (raised-alive (w .A) (w .n) (on (w .A) k) g kind (L .clock) (alive-time (L .clock) (on (w .A) k .r) (h .live)))
           (raised-serial (w .A) (w .n) (on (w .A) k) g kind)
           (raiseLine (isWaitingLine serial)) (λ x z. rw (z, z)) (rw (g .fate-eq, h .picked))

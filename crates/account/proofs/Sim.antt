@@ -1,16 +1,16 @@
 -- The link between the notebook and the table: the table's slots, slot 0 first, with the notebook's line beside each. Assumes nothing.
-use mathlib.Core.Path.{_≡_, refl, sym, ap, ap₂, _∙_, subst}
-use mathlib.Core.Bool.{Bool, true, false, not, _&&_, _||_}
-use mathlib.Core.List.{List, [], _∷_, _++_, map, List·Memᴰ, List·Memᴰ·cases-cons, List·Memᴰ·not-nil, Memᴰ·of-map}
-use Prim.Native.Nat.{ℕ, zero, suc, _+_, _≤_, _<_, min, max}
+use mathlib.Core.Path.{_≡_, refl, sym, ap, ap₂, _∙_}
+use mathlib.Core.Bool.{Bool, true, false, not, _&&_}
+use mathlib.Core.List.{List, [], _∷_, map, List·Memᴰ, Memᴰ·of-map}
+use Prim.Native.Nat.{ℕ, zero, suc, _+_, _≤_, _<_}
 use native.Mathlib.Omega.{arith}
-use lib.ListN.{length, getD, set, List·getD-map, length-map, length-set}
-use lib.Dec.{leb, ltb, eqb}
-use Rattle.protocol.specs.Bytes.{if, same}
+use lib.ListN.{length, getD}
+use lib.Dec.{ltb, eqb}
+use Rattle.protocol.specs.Bytes.{if}
 use Rattle.protocol.specs.Tickets.{ticketText, iouText}
 use Rattle.protocol.specs.Records.{Rec, freeRec, nameOf}
 use Rattle.account.specs.History.{Text}
-use Rattle.account.specs.Notebook.{Fate, held, Line, Notebook, isHeld, close, closeLine, closeAll}
+use Rattle.account.specs.Notebook.{held, Line, Notebook, isHeld}
 use Rattle.account.proofs.Base.{Case, is, isnt, case, clash, when, sum}
 
 pub record Slot : Type 0 where
@@ -191,7 +191,6 @@ module _ (L : Notebook) (d : ℕ) (A B : List Slot) (n : ℕ) (S : Sim L A n) (g
     (closed : (e : Line) → isHeld (e .fate) ≡ false → isHeld (g e .fate) ≡ false)
     (names : (e : Line) → g e .name ≡ e .name) (numbers : (e : Line) → g e .ref ≡ e .ref)
     (len : length B ≡ length A) (turn : (i : ℕ) → Turn (L .clock) d A B g i) where
-
   turn-weight : (f : Line → ℕ) (i : ℕ) → weight d f (on B i) ≡ weight (L .clock) (λ e. heft f (g e)) (on A i)
   turn-weight f i = go (turn i)
     where
@@ -210,6 +209,7 @@ module _ (L : Notebook) (d : ℕ) (A B : List Slot) (n : ℕ) (S : Sim L A n) (g
           go₂ i l ea (stays _ b _ eb _) = (i, b, eb ∙ ap g ea ∙ ga)
           go₂ i l ea (goes _ _ z) = absurd (clash h (rw (← ga, ← ea) z))
           go₂ i l ea (never z _) = absurd (clash l z)
+
           go₁ : Case (isHeld (a .fate)) → (i : ℕ) × (lives d B i ≡ true) × (on B i .e ≡ e)
           go₁ (is x) = let w = S .known a ma x in go₂ (w .0) (w .1) (w .2) (turn (w .0))
           go₁ (isnt x) = absurd (clash h (rw (← ga) (closed a x)))

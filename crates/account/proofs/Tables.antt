@@ -1,28 +1,24 @@
 -- The edits of a table keep it tied to the notebook. Assumes nothing.
-use mathlib.Core.Path.{_≡_, refl, sym, ap, ap₂, _∙_, subst}
-use mathlib.Core.Logic.{_⊎_, inl, inr, _≢_}
-use mathlib.Core.Bool.{Bool, true, false, not, _&&_, _||_}
-use mathlib.Core.List.{List, [], _∷_, _++_, map, List·Memᴰ}
-use Prim.Native.Nat.{ℕ, zero, suc, _+_, _%_, _≤_, _<_, min, max}
+use mathlib.Core.Path.{_≡_, refl, sym, ap, ap₂, _∙_}
+use mathlib.Core.Logic.{_≢_}
+use mathlib.Core.Bool.{Bool, true, false, not}
+use mathlib.Core.List.{List, [], _∷_, map}
+use Prim.Native.Nat.{ℕ, zero, suc, _+_, _%_, _≤_, _<_, max}
 use native.Mathlib.Omega.{arith}
 use native.Mathlib.Decide.{ℕ-discrete}
-use borrow.Author.Tests.{eq-eqb, ne-eqb, eqb-true, eqb-false, lt-ltb, ltb-true, ltb-false, le-ltb, not-true, not-false}
-use lib.ListN.{length, getD, set, List·getD-map, length-map, length-set}
+use borrow.Author.Tests.{eq-eqb, ne-eqb, eqb-true, eqb-false, lt-ltb, not-true, not-false}
+use lib.ListN.{getD, set, List·getD-map, length-map, length-set}
 use lib.Seq.{getD-set-same, getD-set-other}
-use lib.Dec.{leb, ltb, eqb}
-use Rattle.protocol.specs.Bytes.{if, same, zeros}
-use Rattle.protocol.specs.Tickets.{ticketText, iouText, lifetime, aSession, aWaiting, aGrant}
-use Rattle.protocol.specs.Records.{Rec, freeRec, nameOf, live}
-use Rattle.protocol.specs.Table.{Table, tableOf, recAt, putAt}
-use Rattle.protocol.specs.Steps.{clearRec, tick, put, remove, endRec, endSession, isNamed, slotNamed, slotFor, add, granted}
-use Rattle.protocol.proofs.Laws.{both, same-eq, same-refl}
+use lib.Dec.{ltb, eqb}
+use Rattle.protocol.specs.Records.{Rec, freeRec}
+use Rattle.protocol.specs.Table.{Table, putAt}
+use Rattle.protocol.specs.Steps.{clearRec, tick, remove, slotFor, add}
 use Rattle.protocol.proofs.Added.{Room}
-use Rattle.account.specs.History.{Text}
-use Rattle.account.specs.Notebook.{Fate, held, ended, expired, Line, Notebook, isHeld, close, closeLine, closeAll, enter, raise, raiseLine, raiseAll, pass, isLine, isTicket, isWaitingLine, ofSession}
-use Rattle.account.proofs.Base.{Case, is, isnt, case, clash, one-test, untrue, and-not, or-left, or-right, when, sum, name-serial}
-use Rattle.account.proofs.Sim.{Slot, noLine, noSlot, on, alive, lives, weight, weigh, heft, total, Above, Up, upOf, deep, Under, Placed, login, session, below, Good, Before, Sim, good-move, through}
-use Rattle.account.proofs.Edits.{alive-kind, alive-time, alive-is, free-dead, under-of, home-lives, up-lives, parent-lives, up-grants, close-name, sim-drop, sim-put, sim-change, sim-time}
-use Rattle.account.proofs.Look.{recOf, Tied, live-inside, rec-on, size-is, zero-dead, same-name, Hit, Miss}
+use Rattle.account.specs.Notebook.{Fate, expired, Line, Notebook, isHeld, closeLine, closeAll, enter, pass}
+use Rattle.account.proofs.Base.{if-same, clash, and-not}
+use Rattle.account.proofs.Sim.{Slot, noLine, noSlot, on, alive, lives, upOf, Under, session, Good, Sim, good-move}
+use Rattle.account.proofs.Edits.{alive-time, free-dead, under-of, home-lives, parent-lives, up-grants, sim-drop, sim-put, sim-time}
+use Rattle.account.proofs.Look.{recOf, Tied, live-inside, rec-on, size-is, zero-dead, Miss}
 
 pub map-set : (A : List Slot) (k : ℕ) (a : Slot) → set (map recOf A) k (a .r) ≡ map recOf (set A k a)
 map-set [] k a = refl
@@ -48,7 +44,7 @@ tied-none L t w q F hF m =
       clock-is = w .clock-is;
       next-is = w .next-is;
       sim =
-        sim-drop L (w .A) (w .A) (w .n) (w .sim) (λ i. false) q F hF refl (λ i z. refl) (λ i z. absurd (clash z refl)) (λ i l. m .all i l) (λ i l u z. refl)
+          sim-drop L (w .A) (w .A) (w .n) (w .sim) (λ i. false) q F hF refl (λ i z. refl) (λ i z. absurd (clash z refl)) (λ i l. m .all i l) (λ i l u z. refl)
           (λ i k l u e z. refl);
     }
 
@@ -81,20 +77,23 @@ module _ (L : Notebook) (t : Table) (w : Tied L t) (k : ℕ) (lk : lives (L .clo
   other-parent a j u e = ne-eqb (suc j) k (λ x. ng (rw x at (up-grants (w .A) _ _ _ j (u .line) e .0)))
 
   pub tied-removed : (q : Line → Bool) (F : Fate) → isHeld F ≡ false → q (on (w .A) k .e) ≡ true
-    → ((j : ℕ) → lives (L .clock) (w .A) j ≡ true → j ≢ k → q (on (w .A) j .e) ≡ false)
-    → (v : Tied (closeAll F q L) (remove k t)) × (v .A ≡ set (w .A) k noSlot) × (v .n ≡ w .n)
+      → ((j : ℕ) → lives (L .clock) (w .A) j ≡ true → j ≢ k → q (on (w .A) j .e) ≡ false)
+      → (v : Tied (closeAll F q L) (remove k t)) × (v .A ≡ set (w .A) k noSlot) × (v .n ≡ w .n)
   unfolding closeAll spent
-  tied-removed q F hF picked others =
-      (record {
-        A = spent;
-        n = w .n;
-        slots-are = put-slots (t .slots) (w .A) k noSlot (w .slots-are) some-slot;
-        clock-is = w .clock-is;
-        next-is = w .next-is;
-        sim =
+  tied-removed q F hF picked others = (
+    record {
+      A = spent;
+      n = w .n;
+      slots-are = put-slots (t .slots) (w .A) k noSlot (w .slots-are) some-slot;
+      clock-is = w .clock-is;
+      next-is = w .next-is;
+      sim =
           sim-drop L (w .A) spent (w .n) (w .sim) (λ i. eqb i k) q F hF (length-set (w .A) k noSlot) spent-keep spent-gone agree
-            (λ i l u z. other-home (on (w .A) i) u) (λ i j l u e z. other-parent (on (w .A) i) j u e);
-      }, refl, refl)
+          (λ i l u z. other-home (on (w .A) i) u) (λ i j l u e z. other-parent (on (w .A) i) j u e);
+    },
+    refl,
+    refl,
+  )
     where
       agree : (i : ℕ) → lives (L .clock) (w .A) i ≡ true → q (on (w .A) i .e) ≡ eqb i k
       agree i l = go (ℕ-discrete i k)
@@ -104,7 +103,7 @@ module _ (L : Notebook) (t : Table) (w : Tied L t) (k : ℕ) (lk : lives (L .clo
           go (no ne) = others i l ne ∙ sym (ne-eqb i k ne)
 
   pub tied-remove : (q : Line → Bool) (F : Fate) → isHeld F ≡ false → q (on (w .A) k .e) ≡ true
-    → ((j : ℕ) → lives (L .clock) (w .A) j ≡ true → j ≢ k → q (on (w .A) j .e) ≡ false) → Tied (closeAll F q L) (remove k t)
+      → ((j : ℕ) → lives (L .clock) (w .A) j ≡ true → j ≢ k → q (on (w .A) j .e) ≡ false) → Tied (closeAll F q L) (remove k t)
   tied-remove q F hF picked others = tied-removed q F hF picked others .0
 
   -- what was said of it still holds of its session and parents
@@ -112,9 +111,9 @@ module _ (L : Notebook) (t : Table) (w : Tied L t) (k : ℕ) (lk : lives (L .clo
   spent-good =
       let g = w .sim .good k lk in
       good-move (w .A) (set (w .A) k noSlot) (w .n) (w .n) (on (w .A) k) (omega arith)
-        (λ h. getD-set-other (w .A) k (on (w .A) k .r .session) noSlot noSlot (eqb-false _ k (other-home (on (w .A) k) (under-of (w .A) (on (w .A) k) (g .placed) h))))
-        (λ h j e. getD-set-other (w .A) k (suc j) noSlot noSlot (eqb-false (suc j) k (other-parent (on (w .A) k) j (under-of (w .A) (on (w .A) k) (g .placed) h) e)))
-        g
+      (λ h. getD-set-other (w .A) k (on (w .A) k .r .session) noSlot noSlot (eqb-false _ k (other-home (on (w .A) k) (under-of (w .A) (on (w .A) k) (g .placed) h))))
+      (λ h j e. getD-set-other (w .A) k (suc j) noSlot noSlot (eqb-false (suc j) k (other-parent (on (w .A) k) j (under-of (w .A) (on (w .A) k) (g .placed) h) e)))
+      g
 
 -- A record is added in the slot that is found free
 pub serial-is : (L : Notebook) (t : Table) (w : Tied L t) → 1 ≤ t .next → (t .next ≡ w .n) × (w .n < 4294967296)
@@ -135,7 +134,7 @@ tied-add L t w m a la sa ra ga =
       clock-is = w .clock-is;
       next-is = ap (λ (x : ℕ). (x + 1) % 4294967296) (s .0) ∙ ap (λ (x : ℕ). x % 4294967296) (omega arith);
       sim =
-        sim-put L (w .A) (w .n) (w .sim) (slotFor t) (omega (arith, size-is L t w, m .within)) (free-dead (L .clock) (on (w .A) (slotFor t) .r) (rw (rec-on L t w (slotFor t)) at (m .free)))
+          sim-put L (w .A) (w .n) (w .sim) (slotFor t) (omega (arith, size-is L t w, m .within)) (free-dead (L .clock) (on (w .A) (slotFor t) .r) (rw (rec-on L t w (slotFor t)) at (m .free)))
           a la sa ra (s .1) ga;
     }
 
@@ -144,14 +143,10 @@ tied-add L t w m a la sa ra ga =
 clearS : ℕ → Slot → Slot
 clearS c a = record { r = clearRec c (a .r); e = a .e }
 
-if-same : (b : Bool) → if b freeRec freeRec ≡ freeRec
-if-same true = refl
-if-same false = refl
-
 on-clear : (c : ℕ) (A : List Slot) (i : ℕ) → on (map (clearS c) A) i ≡ clearS c (on A i)
 unfolding clearS
 on-clear c A i =
-    let d : clearS c noSlot ≡ noSlot = ap (λ (b : Rec). record { r = b; e = noLine }) (if-same (ltb c 0)) in
+    let d : clearS c noSlot ≡ noSlot = ap (λ (b : Rec). record { r = b; e = noLine }) (if-same (ltb c 0) freeRec) in
     ap (λ (d : Slot). getD (map (clearS c) A) i d) (sym d) ∙ List·getD-map (clearS c) A i noSlot
 
 map-clear : (c : ℕ) (A : List Slot) → map (clearRec c) (map recOf A) ≡ map recOf (map (clearS c) A)
@@ -161,7 +156,7 @@ map-clear c (a ∷ A) = ap (λ (l : List Rec). clearRec c (a .r) ∷ l) (map-cle
 
 clear-slots : (c : ℕ) (slots : List Rec) (A : List Slot) → freeRec ∷ slots ≡ map recOf A → freeRec ∷ map (clearRec c) slots ≡ map recOf (map (clearS c) A)
 clear-slots c slots A e =
-    ap (λ (r : Rec). r ∷ map (clearRec c) slots) (sym (if-same (ltb c 0)))
+    ap (λ (r : Rec). r ∷ map (clearRec c) slots) (sym (if-same (ltb c 0) freeRec))
     ∙ ap (map (clearRec c)) e
     ∙ map-clear c A
 
@@ -173,16 +168,18 @@ sim-clear : (L : Notebook) (A : List Slot) (n : ℕ) → Sim L A n → Sim L (ma
 unfolding closeAll clearS
 sim-clear L A n S =
     let s =
-          sim-drop L A (map (clearS (L .clock)) A) n S (λ i. not (ltb (L .clock) (on A i .r .expiry))) (λ (e : Line). false) expired refl (length-map A (clearS (L .clock))) keep gone
-            (λ i l. sym (rw (fresh i l)))
-            (λ i l u z. rw (fresh _ (home-lives (L .clock) A (on A i) u (alive-time (L .clock) (on A i .r) l))))
-            (λ i k l u e z. rw (fresh (suc k) (parent-lives (L .clock) A (on A i) k u (alive-time (L .clock) (on A i .r) l) e))) in
+    sim-drop L A (map (clearS (L .clock)) A) n S (λ i. not (ltb (L .clock) (on A i .r .expiry))) (λ (e : Line). false) expired refl (length-map A (clearS (L .clock))) keep gone
+    (λ i l. sym (rw (fresh i l)))
+    (λ i l u z. rw (fresh _ (home-lives (L .clock) A (on A i) u (alive-time (L .clock) (on A i .r) l))))
+    (λ i k l u e z. rw (fresh (suc k) (parent-lives (L .clock) A (on A i) k u (alive-time (L .clock) (on A i .r) l) e))) in
     rw (close-none expired (L .book)) at s
   where
     fresh : (i : ℕ) → lives (L .clock) A i ≡ true → ltb (L .clock) (on A i .r .expiry) ≡ true
     fresh i l = lt-ltb (L .clock) (on A i .r .expiry) (alive-time (L .clock) (on A i .r) l)
+
     keep : (i : ℕ) → not (ltb (L .clock) (on A i .r .expiry)) ≡ false → on (map (clearS (L .clock)) A) i ≡ on A i
     keep i z = on-clear (L .clock) A i ∙ rw (not-false (ltb (L .clock) (on A i .r .expiry)) z)
+
     gone : (i : ℕ) → not (ltb (L .clock) (on A i .r .expiry)) ≡ true → lives (L .clock) (map (clearS (L .clock)) A) i ≡ false
     gone i z = rw (on-clear (L .clock) A i, not-true (ltb (L .clock) (on A i .r .expiry)) z)
 

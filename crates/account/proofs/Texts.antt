@@ -1,22 +1,22 @@
 -- What is read at the known places of an answer's bytes is what was written there. Assumes nothing.
-use mathlib.Core.Path.{_≡_, refl, sym, ap, ap₂, _∙_, subst}
-use mathlib.Core.Bool.{Bool, true, false, not, _&&_, _||_}
-use mathlib.Core.List.{List, [], _∷_, _++_, map}
-use Prim.Native.Nat.{ℕ, zero, suc, _+_, _-_, _*_, _/_, _%_, _^_, _≤_, _<_}
+use mathlib.Core.Path.{_≡_, refl, ap, _∙_}
+use mathlib.Core.Bool.{Bool, true, false, _&&_, _||_}
+use mathlib.Core.List.{List, [], _∷_, _++_}
+use Prim.Native.Nat.{ℕ, zero, suc, _+_, _-_, _/_, _%_, _≤_, _<_}
 use native.Mathlib.Omega.{arith}
-use borrow.Author.Tests.{ltb-true, ltb-false, le-leb, lt-leb, leb-true, leb-false, eqb-true, ne-eqb}
+use borrow.Author.Tests.{ltb-true, ltb-false, le-leb, leb-true, ne-eqb, eq-eqb}
 use lib.Dec.{eqb, leb, ltb}
 use lib.ListN.{length, take, drop}
 use lib.Seq.{take-append-seam, drop-append-add}
-use Rattle.protocol.specs.Bytes.{if, ascii, isEmpty, same, part, within, allWithin, holds, upTo, cutAt, spliced, digits, decimal, hex, hexDigit}
-use Rattle.protocol.specs.Tickets.{ticketText, prefix, secretLength, iouText}
+use Rattle.protocol.specs.Bytes.{if, ascii, isEmpty, same, within, allWithin, holds, upTo, spliced, digits, decimal, hex, hexDigit}
+use Rattle.protocol.specs.Tickets.{ticketText, prefix, secretLength}
 use Rattle.protocol.specs.Records.{Rec, nameOf}
 use Rattle.protocol.specs.Answers.{escaped, escapedByte, extended, pageHead, formText, lineIf, inResponse, proxySuccessText, redirectText, callbackText}
 use Rattle.protocol.proofs.Laws.{both}
 use Rattle.protocol.proofs.Names.{digits-within}
 use Rattle.account.specs.History.{Text}
-use Rattle.account.specs.Reading.{ticketIn, formStart, isForm, loginIn, pgtIn, iouIn, proxyStart, proxyIn}
-use Rattle.account.proofs.Base.{Case, is, isnt, case, clash, or-left, or-right}
+use Rattle.account.specs.Reading.{ticketIn, isForm, loginIn, pgtIn, iouIn, proxyIn}
+use Rattle.account.proofs.Base.{clash, or-right}
 
 pub append-assoc {ℓ} : {A : Type ℓ} (a b c : List A) → (a ++ b) ++ c ≡ a ++ (b ++ c)
 append-assoc [] b c = refl
@@ -78,7 +78,7 @@ pub name-letters : (r : Rec) → 1 ≤ r .kind → r .kind ≤ 6 → letters (na
 unfolding nameOf ticketText letters letter
 name-letters r l h =
     letters-append (prefix (r .kind)) _ (prefix-letters (r .kind) l h)
-      (letters-append (decimal (r .serial)) _ (digits-letters (decimal (r .serial)) (digits-within 20 (r .serial))) (hex-letters (take (secretLength (r .kind)) (r .secret))))
+    (letters-append (decimal (r .serial)) _ (digits-letters (decimal (r .serial)) (digits-within 20 (r .serial))) (hex-letters (take (secretLength (r .kind)) (r .secret))))
 
 unlike : (b x : ℕ) → letter b ≡ true → letter x ≡ false → eqb b x ≡ false
 unlike b x p q = ne-eqb b x (λ e. clash (rw e at p) q)
@@ -89,11 +89,11 @@ escaped-letters [] h = refl
 escaped-letters (b ∷ s) h =
     let w = both (letter b) (letters s) h in
     rw (unlike b 38 (w .0) refl, unlike b 60 (w .0) refl, unlike b 62 (w .0) refl, unlike b 34 (w .0) refl, unlike b 39 (w .0) refl)
-      (ap (λ (l : List ℕ). b ∷ l) (escaped-letters s (w .1)))
+    (ap (λ (l : List ℕ). b ∷ l) (escaped-letters s (w .1)))
 
 upTo-letters : (x : ℕ) (s r : List ℕ) → letter x ≡ false → letters s ≡ true → upTo x (s ++ (x ∷ r)) ≡ s
 unfolding letters upTo
-upTo-letters x [] r q h = rw (borrow.Author.Tests.eq-eqb x x refl)
+upTo-letters x [] r q h = rw (eq-eqb x x refl)
 upTo-letters x (b ∷ s) r q h =
     let w = both (letter b) (letters s) h in
     rw (unlike b x (w .0) q) (ap (λ (l : List ℕ). b ∷ l) (upTo-letters x s r q (w .1)))
@@ -156,8 +156,8 @@ unfolding callbackText
 behind-pgt url pgt iou =
     let e : length url + 7 + length pgt + 8 ≡ length url + suc (6 + (length pgt + 8)) = omega arith in
     rw e (past-address url (6 + (length pgt + 8)) (ascii "pgtId=" ++ (pgt ++ (ascii "&pgtIou=" ++ iou)))
-        ∙ drop-append-add (ascii "pgtId=") (pgt ++ (ascii "&pgtIou=" ++ iou)) (length pgt + 8)
-        ∙ drop-append-add pgt (ascii "&pgtIou=" ++ iou) 8)
+    ∙ drop-append-add (ascii "pgtId=") (pgt ++ (ascii "&pgtIou=" ++ iou)) (length pgt + 8)
+    ∙ drop-append-add pgt (ascii "&pgtIou=" ++ iou) 8)
 
 pub iou-read : (url pgt iou : Text) → letters pgt ≡ true → iouIn url (callbackText url pgt iou) ≡ iou
 iou-read url pgt iou h = rw (pgt-read url pgt iou h) (behind-pgt url pgt iou)
@@ -167,7 +167,7 @@ pub proxy-read : (ticket : Text) → letters ticket ≡ true → proxyIn (proxyS
 unfolding proxySuccessText inResponse letter
 proxy-read ticket h =
     rw (append-assoc ticket (ascii "</cas:proxyTicket>\n  </cas:proxySuccess>\n") (ascii "</cas:serviceResponse>\n"))
-      (upTo-letters 60 ticket (ascii "/cas:proxyTicket>\n  </cas:proxySuccess>\n" ++ ascii "</cas:serviceResponse>\n") refl h)
+    (upTo-letters 60 ticket (ascii "/cas:proxyTicket>\n  </cas:proxySuccess>\n" ++ ascii "</cas:serviceResponse>\n") refl h)
 
 -- no ticket's text is empty
 text-some : (k s : ℕ) (x : List ℕ) → 1 ≤ k → k ≤ 6 → isEmpty (ticketText k s x) ≡ false

@@ -1,24 +1,22 @@
 -- The notebook's lines tell what the history itself tells: service, user, chain and credentials of a ticket, and of a grant. Assumes nothing.
-use mathlib.Core.Path.{_≡_, refl, sym, ap, ap₂, _∙_, subst}
+use mathlib.Core.Path.{_≡_, refl, sym, ap, ap₂}
 use mathlib.Core.Logic.{_⊎_, inl, inr, _≢_}
-use mathlib.Core.Bool.{Bool, true, false, not, _&&_, _||_}
-use mathlib.Core.List.{List, [], _∷_, _++_, map, List·Memᴰ, List·Memᴰ·cases-cons, List·Memᴰ·not-nil, Memᴰ·of-map}
-use Prim.Native.Nat.{ℕ, zero, suc, _+_, min, max}
-use native.Mathlib.Omega.{arith}
+use mathlib.Core.Bool.{Bool, true, false, _&&_, _||_}
+use mathlib.Core.List.{List, [], _∷_, map, List·Memᴰ, List·Memᴰ·cases-cons, List·Memᴰ·not-nil, Memᴰ·of-map}
+use Prim.Native.Nat.{ℕ}
 use borrow.Author.Tests.{eqb-true, ne-eqb, eq-eqb}
-use lib.Dec.{eqb, leb}
+use lib.Dec.{eqb}
 use Rattle.protocol.specs.Bytes.{if, same}
-use Rattle.protocol.specs.Tickets.{aLogin, aSession, aService, aProxy, aWaiting, aGrant}
+use Rattle.protocol.specs.Tickets.{aSession, aService, aProxy, aWaiting, aGrant}
 use Rattle.protocol.specs.declared.Validator.{Validator}
 use Rattle.protocol.proofs.Laws.{both, same-eq, same-refl}
 use Rattle.account.specs.History.{Text}
 use Rattle.account.specs.Reading.{Item, Passed, Showed, Spent, Ended, Opened, Issued, Proxied, Burnt, Welcomed, CalledBack, Settled}
-use Rattle.account.specs.Notebook.{Fate, Line, Notebook, isHeld, close, closeLine, closeAll, raise, raiseLine, raiseAll, enter, pass, Look, found, nothing, look, isLine, isTicket, isTicketLine, isWaitingLine, loginLine, sessionLine, lineUnder, enterUnder, note, notebook}
-use Rattle.account.specs.Truth.{Origin, Granting, loginOrigin, grantOrigin, openerOf, spentLive, originOf, grantOf, calledOf}
+use Rattle.account.specs.Notebook.{Fate, Line, isHeld, close, closeLine, closeAll, raiseLine, raiseAll, enter, pass, found, look, isLine, isTicket, isTicketLine, isWaitingLine, loginLine, sessionLine, lineUnder, note, notebook}
+use Rattle.account.specs.Truth.{noIssue, issueIn, noMaking, makingIn, noOpening, openingIn, Origin, Granting, loginOrigin, grantOrigin, openerOf, spentLive, originOf, grantOf, calledOf}
 use Rattle.account.proofs.Base.{Case, is, isnt, case, clash, untrue}
 use Rattle.account.proofs.Look.{seen}
-use Rattle.account.proofs.Making.{New, NewRef}
-use Rattle.account.proofs.Reached.{OwesIssue, OwesOpen, OwesWelcome, OwesCallback, OwesSettle, Owes, AllOwes}
+use Rattle.account.proofs.Reached.{OwesIssue, OwesCallback, Owes, AllOwes}
 
 abbrev pub isPgt : ℕ → Bool
 isPgt kind = eqb kind aWaiting || eqb kind aGrant
@@ -61,12 +59,12 @@ raise-traced start h serial book all = map-traced start h (raiseLine (isWaitingL
         let w = both (isHeld (e .fate)) (isWaitingLine serial e) z .1 in
         let x : eqb (e .kind) aWaiting ≡ true = both (eqb (e .kind) aWaiting) (eqb (e .ref) serial) w .0 in
         rw z
-          (record {
-            ticket = λ u. absurd (clash u refl);
-            opener = λ u. absurd (clash u refl);
-            grant = λ u. k .grant (rw x);
-            called = λ u. absurd (clash u refl);
-          })
+        (record {
+          ticket = λ u. absurd (clash u refl);
+          opener = λ u. absurd (clash u refl);
+          grant = λ u. k .grant (rw x);
+          called = λ u. absurd (clash u refl);
+        })
     go e (isnt z) k = rw z k
 
 enter-traced : (start : ℕ) (h : List Item) (x : Line) (book : List Line) → Traced start h x → AllTraced start h book → AllTraced start h (x ∷ book)
@@ -80,8 +78,7 @@ enter-traced start h x book k all e m = go (List·Memᴰ·cases-cons m)
 
 -- nothing that names a ticket, a session or a grant
 module _ (start : ℕ) (older : List Item) (book : List Line) (all : AllTraced start older book) where
-  aged-quiet : (i : Item) → Rattle.account.specs.Truth.issueIn i ≡ Rattle.account.specs.Truth.Issue.none → Rattle.account.specs.Truth.makingIn i ≡ Rattle.account.specs.Truth.Making.none
-    → Rattle.account.specs.Truth.openingIn i ≡ Rattle.account.specs.Truth.Opening.none → AllTraced start (i ∷ older) book
+  aged-quiet : (i : Item) → issueIn i ≡ noIssue → makingIn i ≡ noMaking → openingIn i ≡ noOpening → AllTraced start (i ∷ older) book
   unfolding originOf openerOf calledOf
   aged-quiet i p q r e m =
       let k = all e m in
@@ -109,7 +106,7 @@ module _ (start : ℕ) (older : List Item) (book : List Line) (all : AllTraced s
       record { ticket = rw (unlike ticket new e m) (k .ticket); opener = k .opener; grant = k .grant; called = k .called }
 
   aged-callback : (v : Validator) (renew : Bool) (ticket service url pgt iou : Text) (serial : ℕ) → ((e : Line) → List·Memᴰ e book → e .name ≢ pgt) → ((e : Line) → List·Memᴰ e book → e .ref ≢ serial)
-    → AllTraced start (CalledBack v renew ticket service url pgt iou serial ∷ older) book
+      → AllTraced start (CalledBack v renew ticket service url pgt iou serial ∷ older) book
   unfolding originOf openerOf calledOf
   aged-callback v renew ticket service url pgt iou serial new number e m =
       let k = all e m in
@@ -137,7 +134,7 @@ line-of kind text e z = let w = both (eqb (e .kind) kind) (same (e .name) text) 
 
 module _ (start : ℕ) (older : List Item) (all : AllTraced start older (notebook start older .book)) where
   issue-line : (cookie service ticket : Text) (signed : Bool) (lt : Text) (o : OwesIssue start older (isLine aSession cookie) ticket signed lt)
-    → Traced start (Issued cookie service ticket signed lt ∷ older) (lineUnder aService ticket 0 service [] signed [] [] (notebook start older .clock) (o .source))
+      → Traced start (Issued cookie service ticket signed lt ∷ older) (lineUnder aService ticket 0 service [] signed [] [] (notebook start older .clock) (o .source))
   unfolding originOf
   issue-line cookie service ticket signed lt o =
       record {
@@ -149,16 +146,19 @@ module _ (start : ℕ) (older : List Item) (all : AllTraced start older (noteboo
     where
       s : List·Memᴰ (o .source) (notebook start older .book) × (isHeld (o .source .fate) ≡ true) × (isLine aSession cookie (o .source) ≡ true)
       s = seen (isLine aSession cookie) (notebook start older .book) (o .source) (o .line)
+
       n : (eqb (o .source .kind) aSession ≡ true) × (o .source .name ≡ cookie)
       n = line-of aSession cookie (o .source) (s .2)
+
       user : openerOf older cookie ≡ o .source .user
       user = rw (n .1) at (all (o .source) (s .0) .opener (n .0))
+
       sign : (b : Bool) → (b ≡ true → spentLive start older lt ≡ true) → (b && spentLive start older lt) ≡ b
       sign true f = f refl
       sign false f = refl
 
   proxy-line : (pgt target ticket : Text) (o : OwesIssue start older (isLine aGrant pgt) ticket false [])
-    → Traced start (Proxied pgt target ticket ∷ older) (lineUnder aProxy ticket 0 target (o .source .text ∷ o .source .chain) false [] [] (notebook start older .clock) (o .source))
+      → Traced start (Proxied pgt target ticket ∷ older) (lineUnder aProxy ticket 0 target (o .source .text ∷ o .source .chain) false [] [] (notebook start older .clock) (o .source))
   unfolding originOf
   proxy-line pgt target ticket o =
       record {
@@ -170,10 +170,13 @@ module _ (start : ℕ) (older : List Item) (all : AllTraced start older (noteboo
     where
       s : List·Memᴰ (o .source) (notebook start older .book) × (isHeld (o .source .fate) ≡ true) × (isLine aGrant pgt (o .source) ≡ true)
       s = seen (isLine aGrant pgt) (notebook start older .book) (o .source) (o .line)
+
       n : (eqb (o .source .kind) aGrant ≡ true) × (o .source .name ≡ pgt)
       n = line-of aGrant pgt (o .source) (s .2)
+
       is-pgt : isPgt (o .source .kind) ≡ true
       is-pgt = let k : o .source .kind ≡ 6 = eqb-true (o .source .kind) 6 (n .0) in rw k
+
       grant : grantOf start older pgt ≡ grantingIn (o .source)
       grant = rw (n .1) at (all (o .source) (s .0) .grant is-pgt)
 
@@ -186,8 +189,8 @@ module _ (start : ℕ) (older : List Item) (all : AllTraced start older (noteboo
       (n, rw n at (all x (s .0) .ticket (w .0)))
 
   callback-line : (v : Validator) (renew : Bool) (ticket service url pgt iou : Text) (serial : ℕ) (o : OwesCallback start older v renew ticket service pgt serial)
-    → Traced start (CalledBack v renew ticket service url pgt iou serial ∷ older)
-        (lineUnder aWaiting pgt serial url (o .ticket-line .chain) false (o .ticket-line .name) iou (notebook start older .clock) (o .ticket-line))
+      → Traced start (CalledBack v renew ticket service url pgt iou serial ∷ older)
+      (lineUnder aWaiting pgt serial url (o .ticket-line .chain) false (o .ticket-line .name) iou (notebook start older .clock) (o .ticket-line))
   unfolding originOf calledOf
   callback-line v renew ticket service url pgt iou serial o =
       let x = ticket-of ticket (o .ticket-line) (o .line) in
@@ -214,8 +217,8 @@ step-traced start (Burnt ticket) older o all = close-traced start _ _ _ _ (aged-
 step-traced start (Welcomed v renew ticket service said) older o all = close-traced start _ _ _ _ (aged-quiet start older _ all (Welcomed v renew ticket service said) refl refl refl)
 step-traced start (CalledBack v renew ticket service url pgt iou serial) older o all =
     rw (o .line)
-      (enter-traced start _ _ _ (callback-line start older all v renew ticket service url pgt iou serial o)
-        (close-traced start _ _ _ _ (aged-callback start older _ all v renew ticket service url pgt iou serial (o .new) (o .new-ref))))
+    (enter-traced start _ _ _ (callback-line start older all v renew ticket service url pgt iou serial o)
+    (close-traced start _ _ _ _ (aged-callback start older _ all v renew ticket service url pgt iou serial (o .new) (o .new-ref))))
 step-traced start (Settled serial true said) older o all = raise-traced start _ serial _ (aged-quiet start older _ all (Settled serial true said) refl refl refl)
 step-traced start (Settled serial false said) older o all = close-traced start _ _ _ _ (aged-quiet start older _ all (Settled serial false said) refl refl refl)
 

@@ -1,35 +1,35 @@
--- The validators and finish: what their answers say is what they did to the table. Assumes nothing.
-use mathlib.Core.Path.{_≡_, refl, sym, ap, ap₂, _∙_, subst}
-use mathlib.Core.Bool.{Bool, true, false, not, _&&_, _||_}
+-- The clauses of the validators and of finish: what the answers say is what was done to the table. Assumes nothing.
+use mathlib.Core.Path.{_≡_, refl, ap₂}
+use mathlib.Core.Bool.{Bool, true, false, not, _&&_}
 use mathlib.Core.List.{List, [], _∷_, _++_}
-use Prim.Native.Nat.{ℕ, zero, suc, _+_, _≤_, _<_}
+use Prim.Native.Nat.{ℕ, _+_}
 use native.Mathlib.Omega.{arith}
 use lib.Dec.{eqb, leb}
-use Rattle.protocol.specs.Bytes.{if, isEmpty, same, ascii}
-use Rattle.protocol.specs.Tickets.{aProxy, aWaiting, iouText, deepest}
-use Rattle.protocol.specs.Records.{Rec, freeRec, nameOf}
-use Rattle.protocol.specs.Table.{Table, recAt, putAt}
+use Rattle.protocol.specs.Bytes.{isEmpty, same, ascii}
+use Rattle.protocol.specs.Tickets.{aWaiting, iouText, deepest}
+use Rattle.protocol.specs.Records.{Rec, nameOf}
+use Rattle.protocol.specs.Table.{Table, recAt}
 use Rattle.protocol.specs.Register.{callbackOf}
-use Rattle.protocol.specs.Request.{malformed, validatorNames, fromQuery, present}
-use Rattle.protocol.specs.Answers.{Code, InvalidRequest, InvalidTicket, InvalidService, Reply, YesNo, Success, Failure, CallbackTo, replyText, replyAnswer, successText, callbackText}
-use Rattle.protocol.specs.Steps.{Brought, Step, step, put, remove, roomFor, newRec, add, ticketSlot, waitingSlot, chainOf, isPlain, takesProxies, failed, proxyParent, waitingWith, waitingStep, grants, presented, validate, granted, finish}
-use Rattle.protocol.specs.declared.Path.{Path}
+use Rattle.protocol.specs.Request.{fromQuery, present}
+use Rattle.protocol.specs.Answers.{Code, InvalidRequest, InvalidTicket, InvalidService, YesNo, Success, Failure, CallbackTo, replyText, replyAnswer, successText}
+use Rattle.protocol.specs.Steps.{Brought, Step, step, remove, roomFor, newRec, ticketSlot, waitingSlot, chainOf, isPlain, failed, proxyParent, waitingWith, waitingStep, grants}
 use Rattle.protocol.specs.declared.Path.the-variants as path
 use Rattle.protocol.specs.declared.Validator.{Validator}
 use Rattle.protocol.specs.declared.Validator.the-variants as validator
 use Rattle.protocol.proofs.Laws.{both}
 use Rattle.protocol.proofs.Added.{Room, room-one}
-use Rattle.account.specs.History.{Text, Asked, Told}
-use Rattle.account.specs.Clauses.{accepting, judging, settling}
-use Rattle.account.specs.Reading.{Item, Burnt, Welcomed, CalledBack, Settled, readValidator, badRequest, readGet, readFinish, pgtIn, iouIn}
-use Rattle.account.proofs.Base.{Case, is, isnt, case, clash, fork}
+use Rattle.account.specs.History.{Text, Told}
+use Rattle.account.specs.Clauses.{outOfPlace, unsigned, meant, burntAt, userOf, raisedAt, accepting, judging, settling}
+use Rattle.account.specs.Reading.{Item, Burnt, CalledBack, readValidator, readFinish}
+use Rattle.account.proofs.Base.{fork}
 use Rattle.account.proofs.Sim.{on}
 use Rattle.account.proofs.Reached.{Reached, RightLine}
-use Rattle.account.proofs.Items.{reach-unburnt, reach-burn, right-line, reach-welcome, reach-callback, settle-owes, reach-granted, reach-refused}
-use Rattle.account.proofs.Texts.{letters, pgt-read, iou-read}
-use Rattle.account.proofs.Counts.{Ok, ok-by, issuesIn, acceptsIn, sumIn}
+use Rattle.account.proofs.Items.{reach-unburnt, right-line, reach-welcome, reach-callback, reach-refused}
+use Rattle.account.proofs.Rules.{taken, marked, for-service, reach-burnt, names-user, settled-owes, reach-raised}
+use Rattle.account.proofs.Texts.{pgt-read, iou-read}
+use Rattle.account.proofs.Counts.{Ok, ok-by}
+use Rattle.account.specs.Account.{says, carriesTicket}
 use Rattle.account.proofs.LoginGet.{new-letters}
-use Rattle.account.proofs.Same.{presented-is, finish-is}
 
 module _ (start : ℕ) (h : List Item) (t : Table) (R : Reached start h t) (v : Validator) (q : Text) (g : Brought) where
   abbrev Goes : Step → Type 0
@@ -54,13 +54,13 @@ module _ (start : ℕ) (h : List Item) (t : Table) (R : Reached start h t) (v : 
   failure-said validator.Service code = refl
   failure-said validator.Proxy code = refl
 
-  failure-counts : (v : Validator) (code : Code) → Rattle.account.specs.Account.says (replyAnswer (failed v code)) ≡ false
+  failure-counts : (v : Validator) (code : Code) → says (replyAnswer (failed v code)) ≡ false
   unfolding replyAnswer
   failure-counts validator.Plain code = refl
   failure-counts validator.Service code = refl
   failure-counts validator.Proxy code = refl
 
-  failure-carries : (v w : Validator) (code : Code) → Rattle.account.specs.Account.carriesTicket (path.Validate w) (replyAnswer (failed v code)) ≡ false
+  failure-carries : (v w : Validator) (code : Code) → carriesTicket (path.Validate w) (replyAnswer (failed v code)) ≡ false
   unfolding replyAnswer
   failure-carries validator.Plain w code = refl
   failure-carries validator.Service w code = refl
@@ -69,7 +69,7 @@ module _ (start : ℕ) (h : List Item) (t : Table) (R : Reached start h t) (v : 
   failed-ok : (t′ : Table) (code : Code) → Reached start (Burnt ticket ∷ h) t′ → Goes (step t′ (failed v code))
   failed-ok t′ code R′ =
       ok-by start h (path.Validate v) _ (Burnt ticket ∷ []) _ (failure-said v code)
-        (record { reached = R′; issues = rw (failure-carries v v code); accepts-eq = rw (failure-counts v code) })
+      (record { reached = R′; issues = rw (failure-carries v v code); accepts-eq = rw (failure-counts v code) })
 
   -- the ticket in slot k is shown
   module _ (e : eqb (ticketSlot (fromQuery "ticket" q) t) 0 ≡ false) where
@@ -82,8 +82,8 @@ module _ (start : ℕ) (h : List Item) (t : Table) (R : Reached start h t) (v : 
     abbrev t′ : Table
     t′ = remove k t
 
-    burnt-ok : (code : Code) → Goes (step t′ (failed v code))
-    burnt-ok code = failed-ok t′ code (reach-burn start h t R ticket e)
+    burnt-ok : (code : Code) → Goes (step (burntAt k t) (failed v code))
+    burnt-ok code = failed-ok (burntAt k t) code (reach-burnt start h t R ticket e)
 
     module _ (right : RightLine v renew service (on (R .tied .A) k .e)) where
       plain-ok : isPlain v ≡ true → Goes (step t′ (YesNo true))
@@ -95,11 +95,13 @@ module _ (start : ℕ) (h : List Item) (t : Table) (R : Reached start h t) (v : 
             accepts-eq = refl;
           }
 
-      success-ok : isPlain v ≡ false → Goes (step t′ (Success (recAt (r .session) (t′ .slots) .text) [] (chainOf (proxyParent r) (t′ .slots))))
+      success-ok : isPlain v ≡ false → Goes (step t′ (Success (userOf r t′) [] (chainOf (proxyParent r) (t′ .slots))))
       unfolding replyAnswer replyText readValidator
       success-ok z =
           record {
-            reached = reach-welcome start h t R ticket e v renew service (successText (recAt (r .session) (t′ .slots) .text) [] (chainOf (proxyParent r) (t′ .slots))) right (rw z);
+            reached =
+                reach-welcome start h t R ticket e v renew service (successText (userOf r t′) [] (chainOf (proxyParent r) (t′ .slots))) right
+                (rw (z, names-user start h t R ticket e));
             issues = refl;
             accepts-eq = refl;
           }
@@ -108,7 +110,7 @@ module _ (start : ℕ) (h : List Item) (t : Table) (R : Reached start h t) (v : 
       waiting = newRec aWaiting 0 (proxyParent r) (r .session) (recAt (proxyParent r) (t′ .slots) .depth + 1) url (g .random) t′
 
       callback-said : readValidator v q (replyAnswer (CallbackTo (waiting .text) (nameOf waiting) (iouText (waiting .iou)) (waiting .serial))) (replyText (CallbackTo (waiting .text) (nameOf waiting) (iouText (waiting .iou)) (waiting .serial)))
-        ≡ CalledBack v renew ticket service url (nameOf waiting) (iouText (waiting .iou)) (waiting .serial) ∷ []
+          ≡ CalledBack v renew ticket service url (nameOf waiting) (iouText (waiting .iou)) (waiting .serial) ∷ []
       unfolding replyAnswer replyText readValidator newRec
       callback-said =
           let l = new-letters aWaiting 0 (proxyParent r) (r .session) (recAt (proxyParent r) (t′ .slots) .depth + 1) url (g .random) t′ (omega arith) (omega arith) in
@@ -118,40 +120,32 @@ module _ (start : ℕ) (h : List Item) (t : Table) (R : Reached start h t) (v : 
       unfolding waitingStep waitingWith replyAnswer
       callback-ok m =
           ok-by start h (path.Validate v) _ (CalledBack v renew ticket service url (nameOf waiting) (iouText (waiting .iou)) (waiting .serial) ∷ []) _ callback-said
-            (record { reached = reach-callback start h t R ticket e m v renew service url (g .random) right; issues = refl; accepts-eq = refl })
+          (record { reached = reach-callback start h t R ticket e m v renew service url (g .random) right; issues = refl; accepts-eq = refl })
 
       accept-ok : Goes (accepting v r url g t′)
       unfolding accepting grants
       accept-ok =
           fork Goes (isPlain v) plain-ok
-            (λ z.
-              fork Goes (not (isEmpty url) && same url (callbackOf (r .text) (g .register)) && leb (recAt (proxyParent r) (t′ .slots) .depth + 1) deepest && roomFor 1 t′)
-                (λ y. callback-ok (room-one t′ (both (not (isEmpty url) && same url (callbackOf (r .text) (g .register)) && leb (recAt (proxyParent r) (t′ .slots) .depth + 1) deepest) (roomFor 1 t′) y .1)))
-                (λ y. success-ok z))
+          (λ z.
+          fork Goes (not (isEmpty url) && same url (callbackOf (r .text) (g .register)) && leb (recAt (proxyParent r) (t′ .slots) .depth + 1) deepest && roomFor 1 t′)
+          (λ y. callback-ok (room-one t′ (both (not (isEmpty url) && same url (callbackOf (r .text) (g .register)) && leb (recAt (proxyParent r) (t′ .slots) .depth + 1) deepest) (roomFor 1 t′) y .1)))
+          (λ y. success-ok z))
 
-  judged-ok : Goes (judging v (ticketSlot (fromQuery "ticket" q) t) q g t)
+  pub judged-ok : Goes (judging v (ticketSlot (fromQuery "ticket" q) t) q g t)
   unfolding judging
   judged-ok =
       fork Goes (eqb (ticketSlot ticket t) 0) (λ z. failed-ok t InvalidTicket (reach-unburnt start h t R ticket z))
-        (λ e.
-          fork Goes (eqb (recAt (ticketSlot ticket t) (t .slots) .kind) aProxy && not (takesProxies v)) (λ z. burnt-ok e InvalidTicket)
-            (λ p.
-              fork Goes (renew && eqb (recAt (ticketSlot ticket t) (t .slots) .mark) 0) (λ z. burnt-ok e InvalidTicket)
-                (λ m.
-                  fork Goes (same (recAt (ticketSlot ticket t) (t .slots) .text) service) (λ s. accept-ok e (right-line start h t R ticket e v renew service p m s))
-                    (λ z. burnt-ok e InvalidService))))
+      (λ e.
+      fork Goes (outOfPlace v (recAt (ticketSlot ticket t) (t .slots))) (λ z. burnt-ok e InvalidTicket)
+      (λ p.
+      fork Goes (unsigned renew (recAt (ticketSlot ticket t) (t .slots))) (λ z. burnt-ok e InvalidTicket)
+      (λ m.
+      fork Goes (meant (recAt (ticketSlot ticket t) (t .slots)) service)
+      (λ s. accept-ok e (right-line start h t R ticket e v renew service (taken v _ p) (marked renew _ m) (for-service _ service s)))
+      (λ z. burnt-ok e InvalidService))))
 
-  bad-ok : Ok start h (path.Validate v) [] (step t (failed v InvalidRequest))
+  pub bad-ok : Ok start h (path.Validate v) [] (step t (failed v InvalidRequest))
   bad-ok = record { reached = R; issues = rw (failure-carries v v InvalidRequest); accepts-eq = rw (failure-counts v InvalidRequest) }
-
-  by-request : (b : Bool)
-    → (let s = if b (step t (failed v InvalidRequest)) (presented v (ticketSlot ticket t) q g t) in Ok start h (path.Validate v) (if b [] (readValidator v q (replyAnswer (s .reply)) (replyText (s .reply)))) s)
-  by-request true = bad-ok
-  by-request false = subst Goes (sym (presented-is v (ticketSlot ticket t) q g t)) judged-ok
-
-  pub validate-ok : (a : Asked) (cleared : Bool) → (let s = validate v q g t in Ok start h (path.Validate v) (readGet (path.Validate v) a q (replyAnswer (s .reply)) (replyText (s .reply)) cleared) s)
-  unfolding validate readGet
-  validate-ok a cleared = by-request (badRequest v q)
 
 -- finish
 module _ (start : ℕ) (h : List Item) (t : Table) (R : Reached start h t) (f : Told) where
@@ -169,21 +163,20 @@ module _ (start : ℕ) (h : List Item) (t : Table) (R : Reached start h t) (f : 
     abbrev waits : Rec
     waits = recAt slot (t .slots)
 
-    settled-yes : f .outcome ≡ true
-      → F (step (put slot (granted waits (t .slots)) t) (Success (recAt (waits .session) (t .slots) .text) (iouText (waits .iou)) (chainOf (waits .parent) (t .slots))))
+    settled-yes : f .outcome ≡ true → F (step (raisedAt slot waits t) (Success (userOf waits t) (iouText (waits .iou)) (chainOf (waits .parent) (t .slots))))
     unfolding replyAnswer replyText readFinish
     settled-yes z =
-        rw z (reach-granted start h t R (f .serial) e _ (settle-owes start h t R (f .serial) e true (successText (recAt (waits .session) (t .slots) .text) (iouText (waits .iou)) (chainOf (waits .parent) (t .slots))) refl))
+        rw z
+        (reach-raised start h t R (f .serial) e _
+        (settled-owes start h t R (f .serial) e true (successText (userOf waits t) (iouText (waits .iou)) (chainOf (waits .parent) (t .slots))) refl))
 
-    settled-no : f .outcome ≡ false → F (step (remove slot t) (Success (recAt (waits .session) (t .slots) .text) [] (chainOf (waits .parent) (t .slots))))
+    settled-no : f .outcome ≡ false → F (step (remove slot t) (Success (userOf waits t) [] (chainOf (waits .parent) (t .slots))))
     unfolding replyAnswer replyText readFinish
     settled-no z =
-        rw z (reach-refused start h t R (f .serial) e _ (settle-owes start h t R (f .serial) e false (successText (recAt (waits .session) (t .slots) .text) [] (chainOf (waits .parent) (t .slots))) refl))
+        rw z
+        (reach-refused start h t R (f .serial) e _
+        (settled-owes start h t R (f .serial) e false (successText (userOf waits t) [] (chainOf (waits .parent) (t .slots))) refl))
 
-  settled-ok : F (settling (waitingSlot (f .serial) t) (recAt (waitingSlot (f .serial) t) (t .slots)) (f .outcome) t)
+  pub settled-ok : F (settling (waitingSlot (f .serial) t) (recAt (waitingSlot (f .serial) t) (t .slots)) (f .outcome) t)
   unfolding settling
   settled-ok = fork F (eqb (waitingSlot (f .serial) t) 0) (λ z. none-ok) (λ e. fork F (f .outcome) (settled-yes e) (settled-no e))
-
-  pub finish-ok : F (finish (f .serial) (f .outcome) t)
-  unfolding finish
-  finish-ok = subst F (sym (finish-is (waitingSlot (f .serial) t) (recAt (waitingSlot (f .serial) t) (t .slots)) (f .outcome) t)) settled-ok

@@ -1,25 +1,22 @@
 -- Demand 3: the account of a table's whole life.
 use mathlib.Core.Path.{_≡_}
-use mathlib.Core.Bool.{Bool, true, false, _&&_, _||_, not}
+use mathlib.Core.Bool.{Bool, true, false, _&&_}
 use mathlib.Core.List.{List, [], _∷_}
 use Prim.Native.Nat.{ℕ, _+_, _≤_}
-use lib.Dec.{eqb, ltb}
 use Rattle.protocol.specs.Bytes.{if, ascii, same}
 use Rattle.protocol.specs.Records.{Rec, live}
-use Rattle.protocol.specs.Table.{Table, decodeTable}
+use Rattle.protocol.specs.Table.{decodeTable}
 use Rattle.protocol.specs.Request.{pathPart, pathNamed}
 use Rattle.protocol.specs.Answers.{successText}
 use Rattle.protocol.specs.Steps.{isPlain, takesProxies}
 use Rattle.protocol.specs.declared.Answer.{Answer}
 use Rattle.protocol.specs.declared.Answer.the-variants as answer
-use Rattle.protocol.specs.declared.Method.{Method}
-use Rattle.protocol.specs.declared.Method.the-variants as method
 use Rattle.protocol.specs.declared.Path.{Path}
 use Rattle.protocol.specs.declared.Path.the-variants as path
 use Rattle.protocol.specs.declared.Validator.{Validator}
-use Rattle.account.specs.History.{Text, Asked, Told, Call, ask, tell, Event}
+use Rattle.account.specs.History.{Text, Call, ask, tell, Event}
 use Rattle.account.specs.Reading.{Item, Passed, Showed, Spent, Ended, Opened, Issued, Proxied, Burnt, Welcomed, CalledBack, Settled, trailOf}
-use Rattle.account.specs.Notebook.{Notebook, notebook, tally, isTicket, isBurnt, isEnded, isExpired}
+use Rattle.account.specs.Notebook.{notebook, tally, isTicket, isBurnt, isEnded, isExpired}
 use Rattle.account.specs.Truth.{Origin, Granting, spentLive, originOf, calledOf}
 
 -- Counted straight from the answers
@@ -74,6 +71,38 @@ unfoldable pub accepted : List Event → ℕ
 accepted [] = 0
 accepted (e ∷ es) = acceptedBy (e .call) (e .outcome .answer) + accepted es
 
+-- The same, counted over all that was said: the trail leaves none of these answers out
+
+abbrev pub issuesIn : Item → ℕ
+issuesIn (Passed time) = 0
+issuesIn (Showed lt) = 0
+issuesIn (Spent lt) = 0
+issuesIn (Ended cookie) = 0
+issuesIn (Opened cookie user signed lt) = 0
+issuesIn (Issued cookie service ticket signed lt) = 1
+issuesIn (Proxied pgt target ticket) = 1
+issuesIn (Burnt ticket) = 0
+issuesIn (Welcomed v renew ticket service said) = 0
+issuesIn (CalledBack v renew ticket service url pgt iou serial) = 0
+issuesIn (Settled serial outcome said) = 0
+
+abbrev pub acceptsIn : Item → ℕ
+acceptsIn (Passed time) = 0
+acceptsIn (Showed lt) = 0
+acceptsIn (Spent lt) = 0
+acceptsIn (Ended cookie) = 0
+acceptsIn (Opened cookie user signed lt) = 0
+acceptsIn (Issued cookie service ticket signed lt) = 0
+acceptsIn (Proxied pgt target ticket) = 0
+acceptsIn (Burnt ticket) = 0
+acceptsIn (Welcomed v renew ticket service said) = 1
+acceptsIn (CalledBack v renew ticket service url pgt iou serial) = 1
+acceptsIn (Settled serial outcome said) = 0
+
+abbrev pub sumIn : (Item → ℕ) → List Item → ℕ
+sumIn f [] = 0
+sumIn f (i ∷ is) = f i + sumIn f is
+
 -- Read from the table
 
 -- the tickets that wait in it: live records of kind 3 and 4
@@ -104,6 +133,24 @@ wonHere start (Settled serial outcome said) older x = same (calledOf start older
 unfoldable pub successes : ℕ → List Item → Text → ℕ
 successes start [] x = 0
 successes start (i ∷ older) x = one (wonHere start i older x) + successes start older x
+
+-- how many times a ticket was accepted
+abbrev pub takenHere : Item → Text → Bool
+takenHere (Passed time) x = false
+takenHere (Showed lt) x = false
+takenHere (Spent lt) x = false
+takenHere (Ended cookie) x = false
+takenHere (Opened cookie user signed lt) x = false
+takenHere (Issued cookie service ticket signed lt) x = false
+takenHere (Proxied pgt target ticket) x = false
+takenHere (Burnt ticket) x = false
+takenHere (Welcomed v renew ticket service said) x = same ticket x
+takenHere (CalledBack v renew ticket service url pgt iou serial) x = same ticket x
+takenHere (Settled serial outcome said) x = false
+
+unfoldable pub acceptances : List Item → Text → ℕ
+acceptances [] x = 0
+acceptances (i ∷ older) x = one (takenHere i x) + acceptances older x
 
 -- an accepted ticket: it was issued, to this very service; under renew by a call with accepted credentials; a proxy ticket only where
 -- they are taken
@@ -141,11 +188,15 @@ Honest start (i ∷ older) = Owed start i older × Honest start older
 
 -- the account of a history h since the format at the time start, beside the table's bytes b after it
 pub record Account (start : ℕ) (h : List Event) (b : Text) : Type 0 where
+  -- no issue and no acceptance is left unread
+  pub issues-read : issued h ≡ sumIn issuesIn (trailOf h)
+  pub accepts-read : accepted h ≡ sumIn acceptsIn (trailOf h)
   -- every ticket issued is accounted for
   pub balance :
-    issued h
-    ≡ accepted h + tally isBurnt (notebook start (trailOf h) .book) + tally isEnded (notebook start (trailOf h) .book) + tally isExpired (notebook start (trailOf h) .book) + waitingIn b
-  -- no ticket gets two success answers
+      issued h
+      ≡ accepted h + tally isBurnt (notebook start (trailOf h) .book) + tally isEnded (notebook start (trailOf h) .book) + tally isExpired (notebook start (trailOf h) .book) + waitingIn b
+  -- no ticket is accepted twice, and none gets two success answers
+  pub accepted-once : (x : Text) → acceptances (trailOf h) x ≤ 1
   pub once : (x : Text) → successes start (trailOf h) x ≤ 1
   -- every acceptance and every success answer is right: service, credentials, user and chain
   pub honest : Honest start (trailOf h)

@@ -1,10 +1,10 @@
--- The clauses of the steps on which the account stands, written out as document 01 has them; proofs/Same shows that they are protocol's.
+-- The clauses of the steps on which the account stands, written out as document 01 has them; the proofs show that they are protocol's.
 -- The theorem is proved of these, so that a wrong clause here is refused by the theorem's own facts.
 use mathlib.Core.Bool.{Bool, true, false, _&&_, not}
-use mathlib.Core.List.{List, []}
+use mathlib.Core.List.{[]}
 use Prim.Native.Nat.{ℕ}
 use lib.Dec.{eqb}
-use Rattle.protocol.specs.Bytes.{if, isEmpty, same}
+use Rattle.protocol.specs.Bytes.{if, same}
 use Rattle.protocol.specs.Tickets.{aProxy, iouText}
 use Rattle.protocol.specs.Records.{Rec}
 use Rattle.protocol.specs.Table.{Table, recAt}
@@ -14,42 +14,70 @@ use Rattle.protocol.specs.Steps.{Brought, Step, step, put, remove, endSession, 
 use Rattle.protocol.specs.declared.Validator.{Validator}
 use Rattle.account.specs.History.{Text}
 
--- validators, step (6): the ticket r is accepted, and t is the table without it; the user is the session's
+-- validators, step (3): a proxy ticket outside proxyValidate
+unfoldable pub outOfPlace : Validator → Rec → Bool
+outOfPlace v r = eqb (r .kind) aProxy && not (takesProxies v)
+
+-- (4): renew, and mark 0
+unfoldable pub unsigned : Bool → Rec → Bool
+unsigned renew r = renew && eqb (r .mark) 0
+
+-- (5): the service that it was issued to
+unfoldable pub meant : Rec → Text → Bool
+meant r service = same (r .text) service
+
+-- the table after (3) to (5): the ticket in slot k is removed, as it is at (6)
+unfoldable pub burntAt : ℕ → Table → Table
+burntAt k t = remove k t
+
+-- the user that a success answer names: its session's
+unfoldable pub userOf : Rec → Table → Text
+userOf r t = recAt (r .session) (t .slots) .text
+
+-- (6): the ticket r is accepted; t is the table without it
 unfoldable pub accepting : Validator → Rec → Text → Brought → Table → Step
 accepting v r url g t =
     if (isPlain v)
     (step t (YesNo true))
     (if (grants r url g t)
     (waitingStep r url (g .random) t)
-    (step t (Success (recAt (r .session) (t .slots) .text) [] (chainOf (proxyParent r) (t .slots)))))
+    (step t (Success (userOf r t) [] (chainOf (proxyParent r) (t .slots)))))
 
--- steps (2) to (6): a live ticket in slot k, or none; from (3) on the ticket is removed
+-- (2) to (6): a live ticket in slot k, or none
 unfoldable pub judging : Validator → ℕ → Text → Brought → Table → Step
 judging v k q g t =
     if (eqb k 0)
     (step t (failed v InvalidTicket))
-    (if (eqb (recAt k (t .slots) .kind) aProxy && not (takesProxies v))
-    (step (remove k t) (failed v InvalidTicket))
-    (if (present "renew" q && eqb (recAt k (t .slots) .mark) 0)
-    (step (remove k t) (failed v InvalidTicket))
-    (if (same (recAt k (t .slots) .text) (fromQuery "service" q))
+    (if (outOfPlace v (recAt k (t .slots)))
+    (step (burntAt k t) (failed v InvalidTicket))
+    (if (unsigned (present "renew" q) (recAt k (t .slots)))
+    (step (burntAt k t) (failed v InvalidTicket))
+    (if (meant (recAt k (t .slots)) (fromQuery "service" q))
     (accepting v (recAt k (t .slots)) (fromQuery "pgtUrl" q) g (remove k t))
-    (step (remove k t) (failed v InvalidService)))))
+    (step (burntAt k t) (failed v InvalidService)))))
 
--- finish: a live waiting grant in slot k, or none; yes makes it a grant, no removes it
+-- finish, yes: the waiting grant r in slot k becomes a grant
+unfoldable pub raisedAt : ℕ → Rec → Table → Table
+raisedAt k r t = put k (granted r (t .slots)) t
+
+-- finish: a live waiting grant in slot k, or none; no removes it
 unfoldable pub settling : ℕ → Rec → Bool → Table → Step
 settling k r outcome t =
     if (eqb k 0)
     (step t (Failure InvalidTicket))
     (if outcome
-    (step (put k (granted r (t .slots)) t) (Success (recAt (r .session) (t .slots) .text) (iouText (r .iou)) (chainOf (r .parent) (t .slots))))
-    (step (remove k t) (Success (recAt (r .session) (t .slots) .text) [] (chainOf (r .parent) (t .slots)))))
+    (step (raisedAt k r t) (Success (userOf r t) (iouText (r .iou)) (chainOf (r .parent) (t .slots))))
+    (step (remove k t) (Success (userOf r t) [] (chainOf (r .parent) (t .slots)))))
 
--- login by POST, accepted: the cookie's live session in slot s is kept if of the same user, else it is ended with all its tickets
+-- login by POST, another user than that of the session in slot s: it is ended, with all its tickets
+unfoldable pub changedAt : ℕ → Table → Table
+changedAt s t = endSession s t
+
+-- accepted credentials: the cookie's live session is kept if of the same user
 unfoldable pub admitting : ℕ → Text → Text → Text → Table → Step
 admitting s user service random t =
     if (eqb s 0)
     (issueAll false false s user service random t)
     (if (same (recAt s (t .slots) .text) user)
     (issueAll true false s user service random t)
-    (issueAll false true s user service random (endSession s t)))
+    (issueAll false true s user service random (changedAt s t)))

@@ -2,12 +2,12 @@
 -- No slot and no table: a line is found by the text that the answers showed, or by the serial of a callback.
 use mathlib.Core.Bool.{Bool, true, false, _&&_, _||_, not}
 use mathlib.Core.List.{List, [], _∷_, map}
-use Prim.Native.Nat.{ℕ, zero, suc, _+_, min, max}
+use Prim.Native.Nat.{ℕ, _+_, min, max}
 use lib.Dec.{eqb, leb}
 use Rattle.protocol.specs.Bytes.{if, same}
 use Rattle.protocol.specs.Tickets.{aLogin, aSession, aService, aProxy, aWaiting, aGrant, lifetime}
-use Rattle.account.specs.History.{Text, Event}
-use Rattle.account.specs.Reading.{Item, Passed, Showed, Spent, Ended, Opened, Issued, Proxied, Burnt, Welcomed, CalledBack, Settled, trailOf}
+use Rattle.account.specs.History.{Text}
+use Rattle.account.specs.Reading.{Item, Passed, Showed, Spent, Ended, Opened, Issued, Proxied, Burnt, Welcomed, CalledBack, Settled}
 
 -- held until it comes to its end: accepted at step 6, burnt at 3 to 5, ended by logout or a change of user, expired by the clock;
 -- login tickets and waiting grants are spent

@@ -1,9 +1,8 @@
 -- Reading one call and its answer: what they say of tickets, by the request's own words and by the known places of the answer's bytes.
 -- Nothing is remembered from one call to the next, and no table is read.
-use mathlib.Core.Bool.{Bool, true, false, _&&_, _||_, not}
+use mathlib.Core.Bool.{Bool, true, false, _||_}
 use mathlib.Core.List.{List, [], _∷_, _++_}
-use Prim.Native.Nat.{ℕ, zero, suc, _+_}
-use Prim.Native.String.{String}
+use Prim.Native.Nat.{ℕ, _+_}
 use lib.Dec.{eqb}
 use lib.ListN.{length, take, drop}
 use Rattle.protocol.specs.Bytes.{if, ascii, isEmpty, same, part, upTo}
@@ -46,7 +45,7 @@ pub data Item : Type 0 where
 abbrev pub ticketIn : Text → Text → Text
 ticketIn service said = drop (length service + 8) said
 
--- a form has `<form` after its three first lines, and its login ticket up to the next `"` after the fourth input's value begins
+-- a form has `<form` after its three first lines, and its login ticket up to the next `"` after the third input's value begins
 abbrev pub formStart : Text
 formStart = ascii "<form method=\"post\" action=\"/cas/login\">\n<input name=\"username\">\n<input name=\"password\" type=\"password\">\n<input name=\"lt\" type=\"hidden\" value=\""
 

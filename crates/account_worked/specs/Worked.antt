@@ -1,6 +1,6 @@
 -- A worked example of the account: a closed history of fourteen calls on a table of nine blocks, computed with its counts.
 -- One of them is refused. Tickets: ST-3 accepted with a callback, PT-5 accepted by its grant, ST-6 expired, ST-7 burnt, ST-8 ended, ST-11 waiting.
-use mathlib.Core.Path.{_≡_, refl, ap, _∙_}
+use mathlib.Core.Path.{_≡_, refl, sym, ap, _∙_}
 use mathlib.Core.Bool.{Bool, true, false, not, _&&_, _||_}
 use mathlib.Core.List.{List, [], _∷_, _++_, map}
 use Prim.Native.Nat.{ℕ, zero, suc, _+_, _-_, _*_, _/_, _%_, _^_, min, max}
@@ -9,6 +9,7 @@ use lib.Dec.{eqb, leb, ltb}
 use lib.ListN.{length, getD, set, take, drop, replicate}
 use Rattle.protocol.specs.declared.Method.{Method}
 use Rattle.protocol.specs.declared.Method.the-variants as method
+use Rattle.protocol.specs.declared.Validator.the-variants as validator
 use Rattle.protocol.specs.Bytes.{ascii, zeros, joined, same, among, allDiffer, allWithin, holds, leOf, bytesOf, spliced, upTo, past, cuts, digits, hex, blocks}
 use Rattle.protocol.specs.Blocks.{checkFrom, houseCheck, sealed, checkRight}
 use Rattle.protocol.specs.Tickets.{deepest, markMost, depthLeast, depthMost, textLeast, textMost, secretFrom, iouFrom, ticketText, iouText}
@@ -18,17 +19,17 @@ use Rattle.protocol.specs.Register.{Entry, entryBody, encodeEntry, decodeEntry,
 use Rattle.protocol.specs.Request.{pathNamed, notEmpty, pieces, countNamed, firstNamed, occurrences, rawValue, hexValue, unitOf, skipOf, decodedFrom, valueMost, charsRight, valueRight, loginNames, bodyNames, logoutNames, validatorNames, proxyNames, badName, malformed, valueOf, present}
 use Rattle.protocol.specs.Answers.{escapedByte, escaped, extended, pageHead, formText, inResponse, proxyLines, successText, failureText, proxySuccessText, callbackText, replyText, replyAnswer}
 use Rattle.protocol.specs.Steps.{tick, endSession, isNamed, slotNamed, ticketSlot, slotFor, roomFor, expiryFor, newRec, add, chainFrom, chainOf, formWith, formStep, ticketWith, ticketStep, signedOn, loginPage, unknownService, loginGet, admitted, newSession, needs, issueAll, accepted, credentials, loginTicket, loginPost, waitingWith, waitingStep, grants, acceptTicket, judgeTicket, presented, validate, granted, waitingSlot, finished, finishAt, finish, proxyWith, proxyBy, proxy, linkTo, logout}
-use Rattle.protocol.specs.Calls.{Result, outcomeOf, answerRefusal, stepOf, delivered, answerOf, finishRefusal, finishOf, formatRefusal, formatOf, checkOf, formRefusal, formOf}
+use Rattle.protocol.specs.Calls.{Result, outcomeWith, answerRefusal, stepOf, delivered, answerOf, finishRefusal, finishOf, formatRefusal, formatOf, checkOf, formRefusal, formOf}
 use Rattle.account.specs.History.{Text, Asked, Told, Call, ask, tell, Event, served, eventOf, tableAfter, historyOf}
-use Rattle.account.specs.Reading.{readLoginGet, readSession, readLoginPost, readValidator, readProxy, readFinish, readGet, readPost, readCall, read, trailOf}
+use Rattle.account.specs.Reading.{Item, Passed, Showed, Spent, Ended, Opened, Issued, Proxied, Burnt, Welcomed, CalledBack, Settled, readLoginGet, readSession, readLoginPost, readValidator, readProxy, readFinish, readGet, readPost, readCall, read, trailOf}
 use Rattle.account.specs.Notebook.{isBurnt, isEnded, isExpired, isAccepted, closeAll, enter, raiseAll, pass, look, note, notebook, tally}
 use Rattle.account.specs.Truth.{openerOf, spentLive, calledOf, originOf, grantOf}
 use Rattle.account.specs.Account.{issuedBy, acceptedBy, issued, accepted as acceptedOfAccount, waitingAmong, waitingIn, successes}
 
 -- a run that hands its table on: what it leaves is what the history says, by `lived-is`
-record Lived : Type 0 where
-  table : Text
-  events : List Event
+pub record Lived : Type 0 where
+  pub table : Text
+  pub events : List Event
 
 abbrev next : Call → Result → List Event → Lived
 next c r es = record { table = r .table; events = eventOf c r ∷ es }
@@ -67,7 +68,7 @@ asked m target body cookie time verdict =
     })
 
 -- the calls, the newest first
-calls : List Call
+pub calls : List Call
 calls =
     asked method.Post "/cas/login" "username=bob&password=y&lt=LT-9-000000000000000000&service=https://p.lan/" "" 1403 true
     ∷ asked method.Get "/cas/login?service=https://p.lan/" "" "" 1402 false
@@ -85,14 +86,73 @@ calls =
     ∷ asked method.Get "/cas/login?service=https://p.lan/" "" "" 1000 false
     ∷ []
 
--- the whole life of the table, and its counts: issued, accepted, burnt, ended, expired, waiting
+-- the whole life of the table
 whole : Lived
-unfolding lived calls asked register joined same among allDiffer allWithin holds leOf bytesOf spliced upTo past cuts digits hex blocks checkFrom houseCheck sealed checkRight deepest markMost depthLeast depthMost textLeast textMost secretFrom iouFrom ticketText iouText recBody encodeRec decodeRec nameOf textRight fieldsRight serialRight expiryRight ownRight headBody encodeTable decodeTable slotFrom countKind serialTaken serialsDiffer sessionRight grantRight parentRight allRight loginCap rulesHold tableLawful formatted entryBody encodeEntry decodeEntry decodeRegister addressRight entryRight allEntriesRight servicesOf registerLawful registered callbackOf pathNamed notEmpty pieces countNamed firstNamed occurrences rawValue hexValue unitOf skipOf decodedFrom valueMost charsRight valueRight loginNames bodyNames logoutNames validatorNames proxyNames badName malformed valueOf present escapedByte escaped extended pageHead formText inResponse proxyLines successText failureText proxySuccessText callbackText replyText replyAnswer tick endSession isNamed slotNamed ticketSlot slotFor roomFor expiryFor newRec add chainFrom chainOf formWith formStep ticketWith ticketStep signedOn loginPage unknownService loginGet admitted newSession needs issueAll accepted credentials loginTicket loginPost waitingWith waitingStep grants acceptTicket judgeTicket presented validate granted waitingSlot finished finishAt finish proxyWith proxyBy proxy linkTo logout outcomeOf answerRefusal stepOf delivered answerOf finishRefusal finishOf formatRefusal formatOf checkOf formRefusal formOf served eventOf tableAfter historyOf readLoginGet readSession readLoginPost readValidator readProxy readFinish readGet readPost readCall read trailOf closeAll enter raiseAll pass look note notebook tally openerOf spentLive calledOf originOf grantOf issuedBy acceptedBy issued acceptedOfAccount waitingAmong waitingIn successes
+unfolding lived calls asked register joined same among allDiffer allWithin holds leOf bytesOf spliced upTo past cuts digits hex blocks checkFrom houseCheck sealed checkRight deepest markMost depthLeast depthMost textLeast textMost secretFrom iouFrom ticketText iouText recBody encodeRec decodeRec nameOf textRight fieldsRight serialRight expiryRight ownRight headBody encodeTable decodeTable slotFrom countKind serialTaken serialsDiffer sessionRight grantRight parentRight allRight loginCap rulesHold tableLawful formatted entryBody encodeEntry decodeEntry decodeRegister addressRight entryRight allEntriesRight servicesOf registerLawful registered callbackOf pathNamed notEmpty pieces countNamed firstNamed occurrences rawValue hexValue unitOf skipOf decodedFrom valueMost charsRight valueRight loginNames bodyNames logoutNames validatorNames proxyNames badName malformed valueOf present escapedByte escaped extended pageHead formText inResponse proxyLines successText failureText proxySuccessText callbackText replyText replyAnswer tick endSession isNamed slotNamed ticketSlot slotFor roomFor expiryFor newRec add chainFrom chainOf formWith formStep ticketWith ticketStep signedOn loginPage unknownService loginGet admitted newSession needs issueAll accepted credentials loginTicket loginPost waitingWith waitingStep grants acceptTicket judgeTicket presented validate granted waitingSlot finished finishAt finish proxyWith proxyBy proxy linkTo logout outcomeWith answerRefusal stepOf delivered answerOf finishRefusal finishOf formatRefusal formatOf checkOf formRefusal formOf served eventOf tableAfter historyOf readLoginGet readSession readLoginPost readValidator readProxy readFinish readGet readPost readCall read trailOf closeAll enter raiseAll pass look note notebook tally openerOf spentLive calledOf originOf grantOf issuedBy acceptedBy issued acceptedOfAccount waitingAmong waitingIn successes
 whole = lived (formatOf (zeros 4608) 999 .table) calls
 
-countsOf : Lived → List ℕ
-unfolding joined same among allDiffer allWithin holds leOf bytesOf spliced upTo past cuts digits hex blocks checkFrom houseCheck sealed checkRight deepest markMost depthLeast depthMost textLeast textMost secretFrom iouFrom ticketText iouText recBody encodeRec decodeRec nameOf textRight fieldsRight serialRight expiryRight ownRight headBody encodeTable decodeTable slotFrom countKind serialTaken serialsDiffer sessionRight grantRight parentRight allRight loginCap rulesHold tableLawful formatted entryBody encodeEntry decodeEntry decodeRegister addressRight entryRight allEntriesRight servicesOf registerLawful registered callbackOf pathNamed notEmpty pieces countNamed firstNamed occurrences rawValue hexValue unitOf skipOf decodedFrom valueMost charsRight valueRight loginNames bodyNames logoutNames validatorNames proxyNames badName malformed valueOf present escapedByte escaped extended pageHead formText inResponse proxyLines successText failureText proxySuccessText callbackText replyText replyAnswer tick endSession isNamed slotNamed ticketSlot slotFor roomFor expiryFor newRec add chainFrom chainOf formWith formStep ticketWith ticketStep signedOn loginPage unknownService loginGet admitted newSession needs issueAll accepted credentials loginTicket loginPost waitingWith waitingStep grants acceptTicket judgeTicket presented validate granted waitingSlot finished finishAt finish proxyWith proxyBy proxy linkTo logout outcomeOf answerRefusal stepOf delivered answerOf finishRefusal finishOf formatRefusal formatOf checkOf formRefusal formOf served eventOf tableAfter historyOf readLoginGet readSession readLoginPost readValidator readProxy readFinish readGet readPost readCall read trailOf closeAll enter raiseAll pass look note notebook tally openerOf spentLive calledOf originOf grantOf issuedBy acceptedBy issued acceptedOfAccount waitingAmong waitingIn successes
-countsOf l =
+-- the texts of tickets whose secrets are zeros
+abbrev short : String → Text
+short name = ascii name ++ replicate 18 48
+
+abbrev long : String → Text
+long name = ascii name ++ replicate 32 48
+
+abbrev panelP : Text
+panelP = ascii "https://p.lan/"
+
+abbrev panelQ : Text
+panelQ = ascii "https://q.lan/"
+
+abbrev callbackP : Text
+callbackP = ascii "https://p.lan/cb"
+
+-- what the calls and their answers say, the newest first; the refused call says nothing
+pub said : List Item
+unfolding successText inResponse escaped escapedByte proxyLines
+said =
+    Issued (long "TGC-10-") panelP (short "ST-11-") true (short "LT-9-")
+    ∷ Opened (long "TGC-10-") (ascii "bob") true (short "LT-9-")
+    ∷ Ended []
+    ∷ Spent (short "LT-9-")
+    ∷ Passed 1403
+    ∷ Showed (short "LT-9-")
+    ∷ Passed 1402
+    ∷ Ended (long "TGC-2-")
+    ∷ Passed 1401
+    ∷ Issued (long "TGC-2-") panelP (short "ST-8-") false []
+    ∷ Passed 1400
+    ∷ Burnt (short "ST-7-")
+    ∷ Passed 1008
+    ∷ Issued (long "TGC-2-") panelP (short "ST-7-") false []
+    ∷ Passed 1007
+    ∷ Welcomed validator.Proxy false (short "PT-5-") panelQ (successText (ascii "ann") [] (callbackP ∷ []))
+    ∷ Passed 1006
+    ∷ Issued (long "TGC-2-") panelP (short "ST-6-") false []
+    ∷ Passed 1005
+    ∷ Proxied (long "PGT-4-") panelQ (short "PT-5-")
+    ∷ Passed 1004
+    ∷ Settled 4 true (successText (ascii "ann") (long "PGTIOU-") [])
+    ∷ Passed 1003
+    ∷ CalledBack validator.Service true (short "ST-3-") panelP callbackP (long "PGT-4-") (long "PGTIOU-") 4
+    ∷ Passed 1002
+    ∷ Issued (long "TGC-2-") panelP (short "ST-3-") true (short "LT-1-")
+    ∷ Opened (long "TGC-2-") (ascii "ann") true (short "LT-1-")
+    ∷ Ended []
+    ∷ Spent (short "LT-1-")
+    ∷ Passed 1001
+    ∷ Showed (short "LT-1-")
+    ∷ Passed 1000
+    ∷ []
+
+pub trailIn : Lived → List Item
+unfolding joined same among allDiffer allWithin holds leOf bytesOf spliced upTo past cuts digits hex blocks checkFrom houseCheck sealed checkRight deepest markMost depthLeast depthMost textLeast textMost secretFrom iouFrom ticketText iouText recBody encodeRec decodeRec nameOf textRight fieldsRight serialRight expiryRight ownRight headBody encodeTable decodeTable slotFrom countKind serialTaken serialsDiffer sessionRight grantRight parentRight allRight loginCap rulesHold tableLawful formatted entryBody encodeEntry decodeEntry decodeRegister addressRight entryRight allEntriesRight servicesOf registerLawful registered callbackOf pathNamed notEmpty pieces countNamed firstNamed occurrences rawValue hexValue unitOf skipOf decodedFrom valueMost charsRight valueRight loginNames bodyNames logoutNames validatorNames proxyNames badName malformed valueOf present escapedByte escaped extended pageHead formText inResponse proxyLines successText failureText proxySuccessText callbackText replyText replyAnswer tick endSession isNamed slotNamed ticketSlot slotFor roomFor expiryFor newRec add chainFrom chainOf formWith formStep ticketWith ticketStep signedOn loginPage unknownService loginGet admitted newSession needs issueAll accepted credentials loginTicket loginPost waitingWith waitingStep grants acceptTicket judgeTicket presented validate granted waitingSlot finished finishAt finish proxyWith proxyBy proxy linkTo logout outcomeWith answerRefusal stepOf delivered answerOf finishRefusal finishOf formatRefusal formatOf checkOf formRefusal formOf served eventOf tableAfter historyOf readLoginGet readSession readLoginPost readValidator readProxy readFinish readGet readPost readCall read trailOf closeAll enter raiseAll pass look note notebook tally openerOf spentLive calledOf originOf grantOf issuedBy acceptedBy issued acceptedOfAccount waitingAmong waitingIn successes
+trailIn l = trailOf (l .events)
+
+-- issued, accepted, burnt, ended, expired, waiting
+pub countsIn : Lived → List ℕ
+unfolding joined same among allDiffer allWithin holds leOf bytesOf spliced upTo past cuts digits hex blocks checkFrom houseCheck sealed checkRight deepest markMost depthLeast depthMost textLeast textMost secretFrom iouFrom ticketText iouText recBody encodeRec decodeRec nameOf textRight fieldsRight serialRight expiryRight ownRight headBody encodeTable decodeTable slotFrom countKind serialTaken serialsDiffer sessionRight grantRight parentRight allRight loginCap rulesHold tableLawful formatted entryBody encodeEntry decodeEntry decodeRegister addressRight entryRight allEntriesRight servicesOf registerLawful registered callbackOf pathNamed notEmpty pieces countNamed firstNamed occurrences rawValue hexValue unitOf skipOf decodedFrom valueMost charsRight valueRight loginNames bodyNames logoutNames validatorNames proxyNames badName malformed valueOf present escapedByte escaped extended pageHead formText inResponse proxyLines successText failureText proxySuccessText callbackText replyText replyAnswer tick endSession isNamed slotNamed ticketSlot slotFor roomFor expiryFor newRec add chainFrom chainOf formWith formStep ticketWith ticketStep signedOn loginPage unknownService loginGet admitted newSession needs issueAll accepted credentials loginTicket loginPost waitingWith waitingStep grants acceptTicket judgeTicket presented validate granted waitingSlot finished finishAt finish proxyWith proxyBy proxy linkTo logout outcomeWith answerRefusal stepOf delivered answerOf finishRefusal finishOf formatRefusal formatOf checkOf formRefusal formOf served eventOf tableAfter historyOf readLoginGet readSession readLoginPost readValidator readProxy readFinish readGet readPost readCall read trailOf closeAll enter raiseAll pass look note notebook tally openerOf spentLive calledOf originOf grantOf issuedBy acceptedBy issued acceptedOfAccount waitingAmong waitingIn successes
+countsIn l =
     issued (l .events)
     ∷ acceptedOfAccount (l .events)
     ∷ tally isBurnt (notebook 999 (trailOf (l .events)) .book)
@@ -101,6 +161,26 @@ countsOf l =
     ∷ waitingIn (l .table)
     ∷ []
 
-counts-are : countsOf whole ≡ 6 ∷ 2 ∷ 1 ∷ 1 ∷ 1 ∷ 1 ∷ []
-unfolding whole countsOf
-counts-are = refl
+-- the run as the theorem speaks of it
+abbrev pub fresh : Text
+fresh = formatOf (zeros 4608) 999 .table
+
+abbrev pub asTold : Lived
+asTold = record { table = tableAfter fresh calls; events = historyOf fresh calls }
+
+trail-computed : trailIn whole ≡ said
+unfolding whole trailIn said
+trail-computed = refl
+
+counts-computed : countsIn whole ≡ 6 ∷ 2 ∷ 1 ∷ 1 ∷ 1 ∷ 1 ∷ []
+unfolding whole countsIn
+counts-computed = refl
+
+pub record Worked : Type 0 where
+  pub trail : trailIn asTold ≡ said
+  -- 6 = 2 + 1 + 1 + 1 + 1
+  pub counts : countsIn asTold ≡ 6 ∷ 2 ∷ 1 ∷ 1 ∷ 1 ∷ 1 ∷ []
+
+pub worked : Worked
+unfolding whole
+worked = record { trail = ap trailIn (sym (lived-is fresh calls)) ∙ trail-computed; counts = ap countsIn (sym (lived-is fresh calls)) ∙ counts-computed }

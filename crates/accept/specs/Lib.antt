@@ -1,0 +1,2 @@
+-- What the contracts of accepted credentials are said in.
+pub mod Standings

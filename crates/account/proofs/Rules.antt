@@ -1,0 +1,67 @@
+-- What each clause gives the account: the facts that a wrong clause would break. Assumes nothing.
+use mathlib.Core.Path.{_≡_, refl}
+use mathlib.Core.Bool.{Bool, true, false}
+use mathlib.Core.List.{List, [], _∷_}
+use Prim.Native.Nat.{ℕ}
+use lib.Dec.{eqb}
+use Rattle.protocol.specs.Bytes.{if}
+use Rattle.protocol.specs.Tickets.{aProxy, iouText}
+use Rattle.protocol.specs.Records.{Rec}
+use Rattle.protocol.specs.Table.{Table, recAt}
+use Rattle.protocol.specs.Answers.{successText}
+use Rattle.protocol.specs.Steps.{remove, sessionOf, ticketSlot, waitingSlot, chainOf, takesProxies}
+use Rattle.protocol.specs.declared.Validator.{Validator}
+use Rattle.protocol.specs.declared.Validator.the-variants as validator
+use Rattle.protocol.proofs.Laws.{same-eq}
+use Rattle.account.specs.History.{Text}
+use Rattle.account.specs.Clauses.{outOfPlace, unsigned, meant, burntAt, userOf, raisedAt, changedAt}
+use Rattle.account.specs.Reading.{Item, Ended, Burnt, Settled}
+use Rattle.account.proofs.Base.{clash}
+use Rattle.account.proofs.Sim.{on}
+use Rattle.account.proofs.Reached.{Reached, OwesSettle}
+use Rattle.account.proofs.Items.{reach-burn, reach-end, reach-granted, welcome-is, settle-owes}
+
+-- a proxy ticket that passes (3) is shown where proxy tickets are taken
+pub taken : (v : Validator) (r : Rec) → outOfPlace v r ≡ false → eqb (r .kind) aProxy ≡ true → takesProxies v ≡ true
+unfolding outOfPlace
+taken validator.Plain r e k = absurd (clash {b = true} refl (rw k at e))
+taken validator.Service r e k = absurd (clash {b = true} refl (rw k at e))
+taken validator.Proxy r e k = refl
+
+-- a ticket that passes (4) under renew has its mark
+pub marked : (renew : Bool) (r : Rec) → unsigned renew r ≡ false → renew ≡ true → eqb (r .mark) 0 ≡ false
+unfolding unsigned
+marked true r e x = e
+marked false r e x = absurd (clash x refl)
+
+-- and one that passes (5) is for that service
+pub for-service : (r : Rec) (service : Text) → meant r service ≡ true → r .text ≡ service
+unfolding meant
+for-service r service e = same-eq (r .text) service e
+
+-- the session of a cookie is ended by a change of user
+pub reach-changed : (start : ℕ) (h : List Item) (t : Table) → Reached start h t → (cookie : Text) → eqb (sessionOf cookie t) 0 ≡ false → Reached start (Ended cookie ∷ h) (changedAt (sessionOf cookie t) t)
+unfolding changedAt
+reach-changed start h t R cookie e = reach-end start h t R cookie e
+
+-- a ticket that is shown and not accepted is burnt, and a success names the line's user
+module _ (start : ℕ) (h : List Item) (t : Table) (R : Reached start h t) (ticket : Text) (e : eqb (ticketSlot ticket t) 0 ≡ false) where
+  pub reach-burnt : Reached start (Burnt ticket ∷ h) (burntAt (ticketSlot ticket t) t)
+  unfolding burntAt
+  reach-burnt = reach-burn start h t R ticket e
+
+  pub names-user : userOf (recAt (ticketSlot ticket t) (t .slots)) (remove (ticketSlot ticket t) t) ≡ on (R .tied .A) (ticketSlot ticket t) .e .user
+  unfolding userOf
+  names-user = welcome-is start h t R ticket e
+
+-- a waiting grant that is settled waits no more, and the answer names its user
+module _ (start : ℕ) (h : List Item) (t : Table) (R : Reached start h t) (serial : ℕ) (e : eqb (waitingSlot serial t) 0 ≡ false) where
+  pub settled-owes : (outcome : Bool) (said : Text)
+      → said ≡ successText (userOf (recAt (waitingSlot serial t) (t .slots)) t) (if outcome (iouText (recAt (waitingSlot serial t) (t .slots) .iou)) []) (chainOf (recAt (waitingSlot serial t) (t .slots) .parent) (t .slots))
+      → OwesSettle start h serial outcome said
+  unfolding userOf
+  settled-owes outcome said bytes = settle-owes start h t R serial e outcome said bytes
+
+  pub reach-raised : (said : Text) → OwesSettle start h serial true said → Reached start (Settled serial true said ∷ h) (raisedAt (waitingSlot serial t) (recAt (waitingSlot serial t) (t .slots)) t)
+  unfolding raisedAt
+  reach-raised said owes = reach-granted start h t R serial e said owes

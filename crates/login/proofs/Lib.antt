@@ -1,0 +1,2 @@
+-- Laws of login, GET.
+pub mod Laws

@@ -1,0 +1,2 @@
+-- What logout's functions give each other.
+pub mod Laws

@@ -1,0 +1,2 @@
+-- Words for the contracts of logout.
+pub mod Leaving

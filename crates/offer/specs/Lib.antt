@@ -1,0 +1,2 @@
+-- What the contracts of the offers are said in.
+pub mod Offers

@@ -1,0 +1,2 @@
+-- What proxy's functions give each other.
+pub mod Laws

@@ -1,0 +1,2 @@
+-- The list of refusals, a rung at a time.
+pub mod Laws

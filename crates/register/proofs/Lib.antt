@@ -1,0 +1,3 @@
+-- The laws of the register: read block by block, and what that means.
+pub mod Laws
+pub mod Meaning

@@ -1,0 +1,2 @@
+-- What the code computes of a register.
+pub mod Blockwise

@@ -1,0 +1,2 @@
+-- Laws of login, POST.
+pub mod Laws

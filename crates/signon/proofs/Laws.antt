@@ -1,0 +1,78 @@
+-- The calls: refused with nothing written, or answered on the table after the clock. Assumes nothing.
+use mathlib.Core.Path.{_≡_, refl, sym, ap, _∙_}
+use mathlib.Core.Bool.{Bool, true, false}
+use mathlib.Core.List.{List, []}
+use Prim.Native.Nat.{ℕ, _-_, _/_, _%_, _≤_}
+use native.Mathlib.Omega.{arith}
+use borrow.Author.Tests.{eq-eqb, ne-eqb, leb-true}
+use lib.Dec.{leb}
+use lib.ListN.{length}
+use Rattle.protocol.specs.Table.{encodeTable, decodeTable, tableShape, tableLawful, lastTime, formatted}
+use Rattle.protocol.specs.Steps.{Step, tick, finish}
+use Rattle.protocol.specs.Calls.{result, refusedOutcome, delivered, numbered, formatRefusal, formatOf, finishRefusal, finishOf}
+use Rattle.protocol.specs.Held.{Holds, Lawful, Done}
+use Rattle.protocol.specs.declared.Outcome.{Outcome}
+use Rattle.protocol.proofs.Laws.{lawful-rules}
+use Rattle.protocol.proofs.Sound.{sound-lawful, tick-sound}
+use Rattle.protocol.proofs.Held.{sound-held, holds-bytes}
+use Rattle.protocol.proofs.Told.{done-did, did-delivered}
+use Rattle.protocol.proofs.Lasting.{passes}
+use Rattle.judge.proofs.Worth.{shaped, lawful-law}
+use Rattle.edit.specs.Edits.{Shape}
+
+-- the clock keeps a lawful table lawful
+pub clock-lawful : (b : List ℕ) {b′ : List ℕ} (n : ℕ) → Lawful b → n ≤ lastTime → Holds b′ (tick n (decodeTable b)) → Lawful b′
+clock-lawful b {b′} n l h k =
+    let e : tableLawful b′ ≡ true = ap tableLawful (holds-bytes b′ (tick n (decodeTable b)) k) ∙ sound-lawful (tick n (decodeTable b)) (tick-sound n (decodeTable b) h (sound-held b l)) in
+    record { fine = k .fine; rules = lawful-rules b′ e }
+
+-- format
+module _ (t : List ℕ) (n : ℕ) {x : ℕ} (e : x ≡ formatRefusal (length t) n) where
+  pub format-refused : (x ≡ 0 → ⊥) → numbered x t ≡ formatOf t n
+  unfolding formatOf
+  format-refused h = rw (← e, ne-eqb x 0 h)
+
+  pub format-done : {t′ : List ℕ} → x ≡ 0 → t′ ≡ encodeTable (formatted (length t / 512 - 1) n) → numbered 0 t′ ≡ formatOf t n
+  unfolding formatOf
+  format-done z k = rw (← e, eq-eqb x 0 z, k)
+
+  pub format-shape : x ≡ 0 → Shape (length t)
+  unfolding formatRefusal
+  format-shape z =
+      let p = passes (tableShape (length t)) 1 _ (omega arith) (sym e ∙ z) in
+      let s = shaped (length t) (p .0) in
+      record { whole = omega (arith, s .whole); least = s .low; most = s .high }
+
+-- finish
+module _ (t : List ℕ) (n : ℕ) (o : List ℕ) {x : ℕ} (e : x ≡ finishRefusal t n (length o)) where
+  pub finish-refused : (s : ℕ) (v : Bool) {y : Outcome} → (x ≡ 0 → ⊥) → y ≡ refusedOutcome x → result y t o [] ≡ finishOf t s v n o
+  unfolding finishOf
+  finish-refused s v h q = rw (q, ← e, ne-eqb x 0 h)
+
+  module _ (z : x ≡ 0) where
+    seen : (Lawful t) × (8192 ≤ length o) × (n ≤ lastTime)
+    unfolding finishRefusal
+    seen =
+        let p1 = passes (tableShape (length t)) 1 _ (omega arith) (sym e ∙ z) in
+        let p2 = passes (tableLawful t) 2 _ (omega arith) (p1 .1) in
+        let p4 = passes (leb 8192 (length o)) 4 _ (omega arith) (p2 .1) in
+        let p6 = passes (leb n lastTime) 6 0 (omega arith) (p4 .1) in
+        (lawful-law t (p1 .0) (p2 .0), leb-true 8192 (length o) (p4 .0), leb-true n lastTime (p6 .0))
+
+    pub finish-lawful : Lawful t
+    finish-lawful = seen .0
+
+    pub finish-room : 8192 ≤ length o
+    finish-room = seen .1
+
+    pub finish-time : n ≤ lastTime
+    finish-time = seen .2
+
+    pub finish-started : {b : List ℕ} → Holds b (tick n (decodeTable t)) → Lawful b
+    finish-started k = clock-lawful t n finish-lawful finish-time k
+
+    pub finish-done : (s : ℕ) (v : Bool) {b t′ o′ : List ℕ} {y : Outcome} → Holds b (tick n (decodeTable t)) → Done (finish s v (decodeTable b)) y t′ o o′
+        → result y t′ o′ [] ≡ finishOf t s v n o
+    unfolding finishOf
+    finish-done s v {b} {t′} {o′} {y} k d =
+        did-delivered (done-did [] d) ∙ rw (k .is, ← e, eq-eqb x 0 z)

@@ -1,0 +1,3 @@
+-- The calls' laws, and that their promises determine what comes out.
+pub mod Laws
+pub mod Determined

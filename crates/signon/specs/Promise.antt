@@ -1,0 +1,37 @@
+-- What each call promises of what goes in and what comes out: refused, by the first number that applies and with nothing written,
+-- or answered, as the protocol says.
+use mathlib.Core.Path.{_≡_}
+use mathlib.Core.Bool.{Bool, true, false}
+use mathlib.Core.List.{List, []}
+use Prim.Native.Nat.{ℕ, _-_, _/_}
+use lib.ListN.{length}
+use Rattle.protocol.specs.Table.{tableShape, tableLawful, encodeTable, decodeTable, formatted}
+use Rattle.protocol.specs.Request.{fromBody}
+use Rattle.protocol.specs.Steps.{tick, finish}
+use Rattle.protocol.specs.Calls.{Inputs, Result, refusal, stepOf, delivered, unchanged, finishRefusal, Numbered, numbered, formatRefusal, FormRead, formRefusal, formGiven, formRefused}
+
+-- format: its number, or a fresh table
+pub record Formats (table : List ℕ) (time : ℕ) (o : Numbered) : Type 0 where
+  pub refused : (formatRefusal (length table) time ≡ 0 → ⊥) → o ≡ numbered (formatRefusal (length table) time) table
+  pub answered : formatRefusal (length table) time ≡ 0 → o ≡ numbered 0 (encodeTable (formatted (length table / 512 - 1) time))
+
+-- check: 1 for a wrong length, 2 for a broken rule, else 0
+pub record Checks (table : List ℕ) (o : ℕ) : Type 0 where
+  pub shape : tableShape (length table) ≡ false → o ≡ 1
+  pub rules : tableShape (length table) ≡ true → tableLawful table ≡ false → o ≡ 2
+  pub lawful : tableShape (length table) ≡ true → tableLawful table ≡ true → o ≡ 0
+
+-- the form reader: its number, or both values
+pub record Reads (body username password : List ℕ) (o : FormRead) : Type 0 where
+  pub refused : (formRefusal body (length username) (length password) ≡ 0 → ⊥) → o ≡ formRefused (formRefusal body (length username) (length password)) username password
+  pub answered : formRefusal body (length username) (length password) ≡ 0 → o ≡ formGiven (fromBody "username" body) (fromBody "password" body) username password
+
+-- answer: its number, or the request's step on the table after the clock
+pub record Answers (i : Inputs) (o : Result) : Type 0 where
+  pub refused : (refusal i ≡ 0 → ⊥) → o ≡ unchanged (refusal i) (i .table) (i .out) (i .cookieOut)
+  pub answered : refusal i ≡ 0 → o ≡ delivered (stepOf i) (i .out) (i .cookieOut)
+
+-- finish: its number, or the callback's outcome on the table after the clock
+pub record Finishes (table : List ℕ) (serial : ℕ) (outcome : Bool) (time : ℕ) (out : List ℕ) (o : Result) : Type 0 where
+  pub refused : (finishRefusal table time (length out) ≡ 0 → ⊥) → o ≡ unchanged (finishRefusal table time (length out)) table out []
+  pub answered : finishRefusal table time (length out) ≡ 0 → o ≡ delivered (finish serial outcome (tick time (decodeTable table))) out []

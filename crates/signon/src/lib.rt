@@ -1,0 +1,62 @@
+// The five calls: format a table, check a table, read username and password from a form, answer a request, finish a callback.
+// A host calls these and nothing else. Each takes any bytes: it is refused by number, in the order of the list, and then nothing
+// is written; or it does what the protocol says.
+use protocol::Answer;
+use protocol::Form;
+use protocol::Outcome;
+ghost use mathlib.Core.Path.{_≡_};
+ghost use mathlib.Core.List.{[]};
+ghost use Rattle.protocol.specs.Calls.{refusedOutcome, numbered, formatOf, checkOf, formRead, formOf, result, finishOf};
+
+// A refused call's result: its number, all else 0.
+fn refused(number: u32) -> Outcome
+    ensures { λ r. ⌜ r ≡ refusedOutcome number ⌝ }
+{
+    Outcome {
+        refusal: number,
+        answer: Answer::Nothing,
+        status: 0,
+        length: 0,
+        cookie_length: 0,
+        cookie_cleared: false,
+        callback_serial: 0,
+    }
+}
+
+// A fresh table, whatever the bytes were: the refusal's number, else 0.
+pub fn format(table: &mut [u8], time: u64) -> u32
+    ensures { λ r. ⌜ numbered r (now (table .exit)) ≡ formatOf (now (table .entry)) time ⌝ }
+{
+    let number = refuse::of_format(table.len(), time);
+    if number != 0 {
+        return number;
+    }
+    edit::format(table, time);
+    0
+}
+
+// Whether a table is lawful: 0, else the refusal's number.
+pub fn check(table: &[u8]) -> u32
+    ensures { λ r. ⌜ r ≡ checkOf (now (table .entry)) ⌝ }
+{
+    refuse::of_check(table)
+}
+
+// Username and password of a login body, for the host to judge.
+pub fn read_form(body: &[u8], username: &mut [u8], password: &mut [u8]) -> Form
+    ensures { λ r. ⌜ formRead r (now (username .exit)) (now (password .exit)) ≡ formOf (now (body .entry)) (now (username .entry)) (now (password .entry)) ⌝ }
+{
+    form::read_form(body, username, password)
+}
+
+// The outcome of the callback of a serial, yes only after a good certificate and a 200.
+pub fn finish(table: &mut [u8], serial: u32, outcome: bool, time: u64, out: &mut [u8]) -> Outcome
+    ensures { λ r. ⌜ result r (now (table .exit)) (now (out .exit)) [] ≡ finishOf (now (table .entry)) serial outcome time (now (out .entry)) ⌝ }
+{
+    let number = refuse::of_finish(table, time, out.len());
+    if number != 0 {
+        return refused(number);
+    }
+    edit::tick(table, time);
+    finish::finish(table, serial, outcome, out)
+}

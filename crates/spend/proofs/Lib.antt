@@ -1,0 +1,2 @@
+-- Laws of a presented ticket.
+pub mod Laws

@@ -1,0 +1,2 @@
+-- What is done of a presented ticket.
+pub mod Spends

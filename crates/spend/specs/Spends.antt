@@ -1,0 +1,68 @@
+-- (2) to (6) of the validators, over values that are already decoded: protocol's `presented` in the parts that the code has.
+use mathlib.Core.Path.{_≡_}
+use mathlib.Core.Bool.{Bool, true, false, _&&_, not}
+use mathlib.Core.List.{List, []}
+use Prim.Native.Nat.{ℕ, _+_, _≤_, _<_}
+use lib.Dec.{eqb, leb}
+use lib.ListN.{length}
+use Rattle.protocol.specs.Bytes.{if, isEmpty, same}
+use Rattle.protocol.specs.Tickets.{aWaiting, deepest}
+use Rattle.protocol.specs.Records.{Rec}
+use Rattle.protocol.specs.Table.{Table, decodeTable, recAt}
+use Rattle.protocol.specs.Register.{Entry, callbackOf, decodeRegister, registerLawful}
+use Rattle.protocol.specs.Answers.{InvalidTicket, InvalidService, YesNo, Success}
+use Rattle.protocol.specs.Steps.{Brought, Step, step, remove, roomFor, newRec, chainOf, failed, isPlain, waitingWith}
+use Rattle.protocol.specs.Held.{Lawful, In}
+use Rattle.protocol.specs.declared.Validator.{Validator}
+use Rattle.verdict.specs.Verdicts.{verdictOf}
+use Rattle.verdict.specs.declared.Verdict.{Verdict}
+use Rattle.verdict.specs.declared.Verdict.the-variants as verdict
+
+-- what a validator reads of what a request brings: the register and the random input
+abbrev pub bringing : List ℕ → List ℕ → Brought
+bringing register random = record { register = decodeRegister register; cookie = []; random = random; verdict = false }
+
+-- a table, a register, a callback's address, the random input, and an output with room for any answer
+pub record Brings (b g url random o : List ℕ) : Type 0 where
+  pub lawful : Lawful b
+  pub register : registerLawful g ≡ true
+  pub short : length url ≤ 200
+  pub drawn : length random ≡ 48
+  pub room : 8192 ≤ length o
+
+-- a live service or proxy ticket
+pub record Spendable (k : ℕ) (b : List ℕ) : Type 0 where
+  pub slot : In k b
+  pub least : 3 ≤ recAt k (decodeTable b .slots) .kind
+  pub most : recAt k (decodeTable b .slots) .kind ≤ 4
+  pub lasts : decodeTable b .clock < recAt k (decodeTable b .slots) .expiry
+
+-- a grant is made where the url is the nonempty callback of the service, the new depth is at most 4 and a serial is left
+unfoldable pub mayGrant : ℕ → List ℕ → List ℕ → List Entry → Table → Bool
+mayGrant parent service url register t =
+    not (isEmpty url) && same url (callbackOf service register) && leb (recAt parent (t .slots) .depth + 1) deepest && roomFor 1 t
+
+unfoldable pub grantOrTell : ℕ → ℕ → List ℕ → List ℕ → Brought → Table → Step
+grantOrTell session parent service url g t =
+    if (mayGrant parent service url (g .register) t)
+    (waitingWith (newRec aWaiting 0 parent session (recAt parent (t .slots) .depth + 1) url (g .random) t) t)
+    (step t (Success (recAt session (t .slots) .text) [] (chainOf parent (t .slots))))
+
+-- (6), by a ticket's session, where its proxies start, and its service
+unfoldable pub acceptedBy : Validator → ℕ → ℕ → List ℕ → List ℕ → Brought → Table → Step
+acceptedBy v session parent service url g t = if (isPlain v) (step t (YesNo true)) (grantOrTell session parent service url g t)
+
+-- what is done by a verdict; t is the table without the ticket
+abbrev pub answeredBy : Validator → Verdict → List ℕ → List ℕ → Brought → Table → Step
+answeredBy v verdict.NoTicket service url g t = step t (failed v InvalidTicket)
+answeredBy v verdict.NoService service url g t = step t (failed v InvalidService)
+answeredBy v (verdict.Accepted session parent) service url g t = acceptedBy v session parent service url g t
+
+-- (3) to (6): the ticket r has been removed
+unfoldable pub spentBy : Validator → Rec → Bool → List ℕ → List ℕ → Brought → Table → Step
+spentBy v r renew service url g t = answeredBy v (verdictOf v renew service r) service url g t
+
+-- (2) a live service or proxy ticket in slot k, or none
+unfoldable pub presentedBy : Validator → ℕ → Bool → List ℕ → List ℕ → Brought → Table → Step
+presentedBy v k renew service url g t =
+    if (eqb k 0) (step t (failed v InvalidTicket)) (spentBy v (recAt k (t .slots)) renew service url g (remove k t))

@@ -1,0 +1,154 @@
+// A ticket presented: found, judged, removed, and only then answered.
+use find::Found;
+use protocol::Outcome;
+use protocol::Validator;
+use verdict::Verdict;
+use xml::Code;
+ghost use mathlib.Core.Path.{_≡_};
+ghost use mathlib.Core.Bool.{true};
+ghost use Prim.Native.Nat.{_≤_};
+ghost use lib.ListN.{length};
+ghost use Rattle.protocol.specs.Table.{decodeTable, recAt};
+ghost use Rattle.protocol.specs.Register.{decodeRegister, registerLawful};
+ghost use Rattle.protocol.specs.Steps.{failed, remove, ticketSlot};
+ghost use Rattle.protocol.specs.Held.{Fine, In, Said, Done};
+ghost use Rattle.xml.specs.Codes.{codeOf};
+ghost use Rattle.chain.specs.Walk.{Within};
+ghost use Rattle.spend.specs.Spends.{bringing, Brings, Spendable, mayGrant, grantOrTell, acceptedBy, spentBy, presentedBy};
+
+// The deepest grant.
+const DEEPEST: u8 = 4;
+
+// A failure as a validator says it: `no`, or XML.
+pub fn fail(validator: Validator, code: Code, out: &mut [u8]) -> Outcome
+    requires { ⌜ 8192 ≤ length (now out) ⌝ }
+    ensures { λ r. ⌜ Said (failed validator (codeOf code)) r (now (out .entry)) (now (out .exit)) ⌝ }
+{
+    match validator {
+        Validator::Plain => reply::say_word(out, false),
+        Validator::Service => reply::say_failure(out, code),
+        Validator::Proxy => reply::say_failure(out, code),
+    }
+}
+
+// Is a grant made below a parent, for a service that gives this callback?
+fn may_grant(table: &[u8], register: &[u8], parent: usize, service: &[u8], url: &[u8]) -> bool
+    requires { ⌜ (Fine (now table)) × (Within parent (now table)) × (registerLawful (now register) ≡ true) ⌝ }
+    ensures { λ r. ⌜ r ≡ mayGrant parent (now (service .entry)) (now (url .entry)) (decodeRegister (now (register .entry))) (decodeTable (now (table .entry))) ⌝ }
+{
+    let callback = register::callback_of(register, service);
+    let depth = chain::depth_at(table, parent);
+    (0 < url.len()) & text::same(url, callback) & (depth < DEEPEST) & find::has_room(table, 1)
+}
+
+// A waiting grant and its callback, or success without a grant.
+fn grant_or_tell(
+    table: &mut [u8],
+    register: &[u8],
+    session: u16,
+    parent: u16,
+    service: &[u8],
+    url: &[u8],
+    random: &[u8],
+    out: &mut [u8],
+) -> Outcome
+    requires { ⌜ (Brings (now table) (now register) (now url) (now random) (now out)) × (In session (now table)) × (Within parent (now table)) ⌝ }
+    ensures { λ r. ⌜ Done (grantOrTell session parent (now (service .entry)) (now (url .entry)) (bringing (now (register .entry)) (now (random .entry))) (decodeTable (now (table .entry)))) r (now (table .exit)) (now (out .entry)) (now (out .exit)) ⌝ }
+{
+    if may_grant(table, register, parent as usize, service, url) {
+        let depth = chain::depth_at(table, parent as usize) + 1;
+        return offer::waiting(table, parent, session, depth, url, random, out);
+    }
+    chain::say_success(table, session as usize, b"", parent as usize, out)
+}
+
+// A ticket accepted, which is no longer in the table.
+fn accept(
+    table: &mut [u8],
+    register: &[u8],
+    validator: Validator,
+    session: u16,
+    parent: u16,
+    service: &[u8],
+    url: &[u8],
+    random: &[u8],
+    out: &mut [u8],
+) -> Outcome
+    requires { ⌜ (Brings (now table) (now register) (now url) (now random) (now out)) × (In session (now table)) × (Within parent (now table)) ⌝ }
+    ensures { λ r. ⌜ Done (acceptedBy validator session parent (now (service .entry)) (now (url .entry)) (bringing (now (register .entry)) (now (random .entry))) (decodeTable (now (table .entry)))) r (now (table .exit)) (now (out .entry)) (now (out .exit)) ⌝ }
+{
+    match validator {
+        Validator::Plain => reply::say_word(out, true),
+        Validator::Service => {
+            grant_or_tell(table, register, session, parent, service, url, random, out)
+        }
+        Validator::Proxy => {
+            grant_or_tell(table, register, session, parent, service, url, random, out)
+        }
+    }
+}
+
+// The ticket in a slot is judged and removed, whatever is then said of it.
+fn spend(
+    table: &mut [u8],
+    register: &[u8],
+    validator: Validator,
+    slot: usize,
+    renew: bool,
+    service: &[u8],
+    url: &[u8],
+    random: &[u8],
+    out: &mut [u8],
+) -> Outcome
+    requires { ⌜ (Brings (now table) (now register) (now url) (now random) (now out)) × (Spendable slot (now table)) ⌝ }
+    ensures { λ r. ⌜ Done (spentBy validator (recAt slot (decodeTable (now (table .entry)) .slots)) renew (now (service .entry)) (now (url .entry)) (bringing (now (register .entry)) (now (random .entry))) (remove slot (decodeTable (now (table .entry))))) r (now (table .exit)) (now (out .entry)) (now (out .exit)) ⌝ }
+{
+    let verdict = verdict::judge(table, slot, validator, renew, service);
+    table::free_record(table, slot);
+    match verdict {
+        Verdict::NoTicket => fail(validator, Code::InvalidTicket, out),
+        Verdict::NoService => fail(validator, Code::InvalidService, out),
+        Verdict::Accepted { session, parent } => accept(
+            table,
+            register,
+            validator,
+            session,
+            parent,
+            service,
+            url,
+            random,
+            out,
+        ),
+    }
+}
+
+// A ticket's text presented for a service, with a callback or an empty one.
+pub fn present(
+    table: &mut [u8],
+    register: &[u8],
+    validator: Validator,
+    ticket: &[u8],
+    renew: bool,
+    service: &[u8],
+    url: &[u8],
+    random: &[u8],
+    out: &mut [u8],
+) -> Outcome
+    requires { ⌜ Brings (now table) (now register) (now url) (now random) (now out) ⌝ }
+    ensures { λ r. ⌜ Done (presentedBy validator (ticketSlot (now (ticket .entry)) (decodeTable (now (table .entry)))) renew (now (service .entry)) (now (url .entry)) (bringing (now (register .entry)) (now (random .entry))) (decodeTable (now (table .entry)))) r (now (table .exit)) (now (out .entry)) (now (out .exit)) ⌝ }
+{
+    match find::find_ticket(table, ticket) {
+        Found::At(slot) => spend(
+            table,
+            register,
+            validator,
+            slot,
+            renew,
+            service,
+            url,
+            random,
+            out,
+        ),
+        Found::Nothing => fail(validator, Code::InvalidTicket, out),
+    }
+}

@@ -1,0 +1,2 @@
+-- Laws of the validators.
+pub mod Laws

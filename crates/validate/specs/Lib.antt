@@ -1,0 +1,2 @@
+-- What a validator is asked.
+pub mod Asked

@@ -1,0 +1,2 @@
+-- What is to be said of a ticket.
+pub mod Verdicts
