@@ -1,0 +1,2 @@
+-- Room for what an example writes.
+pub mod Laws

@@ -1,0 +1,24 @@
+-- Every place is within the buffer, whose length stays.
+use Prim.Native.Nat.{_-_, _≤_}
+use mathlib.Core.Path.{_≡_, refl}
+use native.Mathlib.Omega.{arith}
+use lib.ListN.{length, length-set}
+use Rattle.replay.proofs.frame.fill.Statement.{statement}
+use Rattle.replay.proofs.frame.fill.Tie as tie
+
+abbrev Inv-loop : tie.InvT-loop
+Inv-loop buf₀ v i₀ buf i = (length buf ≡ length buf₀) × (i ≤ length buf)
+
+abbrev μ-loop : tie.MeasureT-loop
+μ-loop buf₀ v i₀ buf i = length buf - i
+
+loop-again : tie.Need-loop-again Inv-loop μ-loop
+loop-again c = simp length-set (omega arith, omega arith)
+
+loop-less : tie.Need-loop-less Inv-loop μ-loop
+loop-less c = simp length-set (omega arith)
+
+pub fill-spec : {M : Type 1} → statement M
+fill-spec =
+    tie.close
+    (tie.spec Inv-loop μ-loop (λ c. (refl, omega arith)) (λ c. omega arith) (λ c. omega arith) loop-less loop-again (λ c. omega arith) (λ c. tt))

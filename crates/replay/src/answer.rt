@@ -1,0 +1,134 @@
+// The frame of an answer: its fields and texts read, the call made on the bytes that they name.
+use super::Held;
+use super::cut;
+use super::frame::CUT;
+use super::frame::fill;
+use super::frame::part;
+use super::frame::read_after;
+use super::frame::within;
+use super::line::say_outcome;
+use protocol::Method;
+
+// What the frame says before its texts; the size of the output is CUT where that is.
+struct Asked {
+    post: bool,
+    time: u64,
+    verdict: bool,
+    out: u64,
+    cookie_out: u64,
+}
+
+fn read_asked() -> Asked {
+    let mut fields = [0u8; 18];
+    let got = io::read_full(0, &mut fields);
+    if got < 18 {
+        return Asked {
+            post: false,
+            time: 0,
+            verdict: false,
+            out: CUT,
+            cookie_out: 0,
+        };
+    }
+    Asked {
+        post: fields[0] != 0,
+        time: block::get(&fields, 1, 8),
+        verdict: fields[9] != 0,
+        out: block::get(&fields, 10, 4),
+        cookie_out: block::get(&fields, 14, 4),
+    }
+}
+
+// Where each of the frame's texts ends, one behind the other in one buffer.
+struct Ends {
+    target: u64,
+    body: u64,
+    cookie: u64,
+    random: u64,
+}
+
+fn read_texts(texts: &mut [u8]) -> Ends {
+    let target = read_after(texts, 0);
+    let body = read_after(texts, target);
+    let cookie = read_after(texts, body);
+    let random = read_after(texts, cookie);
+    Ends {
+        target,
+        body,
+        cookie,
+        random,
+    }
+}
+
+pub fn answer(held: Held, table: &mut [u8], register: &[u8]) -> Held {
+    let asked = read_asked();
+    if (16384 < asked.out) | (4096 < asked.cookie_out) {
+        return cut();
+    }
+    let mut texts = [0u8; 65536];
+    let ends = read_texts(&mut texts);
+    if 65536 < ends.random {
+        return cut();
+    }
+    let n = within(held.table, table);
+    answer_texts(
+        &mut table[..n],
+        part(register, 0, held.register),
+        asked,
+        ends,
+        &texts,
+    );
+    held
+}
+
+fn answer_texts(table: &mut [u8], register: &[u8], asked: Asked, ends: Ends, texts: &[u8]) {
+    let mut out = [0u8; 16384];
+    let mut cookie_out = [0u8; 4096];
+    let o = within(asked.out, &out);
+    let c = within(asked.cookie_out, &cookie_out);
+    answer_call(
+        table,
+        register,
+        asked,
+        part(texts, 0, ends.target),
+        part(texts, ends.target, ends.body),
+        part(texts, ends.body, ends.cookie),
+        part(texts, ends.cookie, ends.random),
+        &mut out[..o],
+        &mut cookie_out[..c],
+    );
+}
+
+fn method_of(post: bool) -> Method {
+    if post { Method::Post } else { Method::Get }
+}
+
+fn answer_call(
+    table: &mut [u8],
+    register: &[u8],
+    asked: Asked,
+    target: &[u8],
+    body: &[u8],
+    cookie: &[u8],
+    random: &[u8],
+    out: &mut [u8],
+    cookie_out: &mut [u8],
+) {
+    fill(out, 0xEE);
+    fill(cookie_out, 0xDD);
+    let method = method_of(asked.post);
+    let outcome = signon::answer(
+        table,
+        register,
+        method,
+        target,
+        body,
+        cookie,
+        asked.time,
+        random,
+        asked.verdict,
+        out,
+        cookie_out,
+    );
+    say_outcome(b"A", outcome, out, cookie_out, table);
+}

@@ -1,0 +1,220 @@
+// Replays a stream of calls: frames on standard input, each field by its own length, so that the program can also be driven one call at
+// a time through a pipe. The table and the register stay from frame to frame. One line is written for each call; a frame that is cut,
+// too large for the buffers here or unknown ends the program with a line that says so.
+//
+//   G  bytes                                      the register from here on
+//   P  u32 place, bytes                           the host overwrites bytes of the table
+//   F  u32 size, u8 fill, u64 time                a table of that size, each byte fill, is formatted
+//   C                                             check
+//   R  bytes body, u32, u32                       read the form into buffers of these sizes
+//   A  u8 post, u64 time, u8 verdict, u32, u32, bytes target, bytes body, bytes cookie, bytes random
+//                                                 answer, with output and cookie output of these sizes
+//   N  u32 serial, u8 outcome, u64 time, u32      finish, with an output of this size
+//
+// Room: a table of 70,000 bytes, texts of 65,536 in a frame, an output of 16,384, any other lent buffer of 4,096.
+mod answer;
+mod frame;
+mod line;
+
+use answer::answer;
+use frame::fill;
+use frame::lacks;
+use frame::part;
+use frame::read_bytes;
+use frame::read_number;
+use frame::within;
+use line::say_form;
+use line::say_outcome;
+use line::say_table;
+ghost use Prim.Native.Nat.{_<_};
+
+// How many bytes table and register have, and whether to go on.
+struct Held {
+    table: u64,
+    register: u64,
+    more: bool,
+}
+
+fn main() {
+    let mut table = [0u8; 70000];
+    let mut register = [0u8; 65536];
+    run(&mut table, &mut register);
+}
+
+fn frames_left(left: u64, more: bool) -> u64
+    requires { ⌜ 0 < left ⌝ }
+    ensures { λ r. ⌜ r < left ⌝ }
+{
+    if more {
+        return left - 1;
+    }
+    0
+}
+
+// At most 2^40 frames, so that the program ends.
+fn run(table: &mut [u8], register: &mut [u8]) {
+    let mut held = Held {
+        table: 0,
+        register: 0,
+        more: true,
+    };
+    let mut left: u64 = 1099511627776;
+    while 0 < left {
+        held = step(held, table, register);
+        left = frames_left(left, held.more);
+    }
+}
+
+fn stop() -> Held {
+    Held {
+        table: 0,
+        register: 0,
+        more: false,
+    }
+}
+
+fn cut() -> Held {
+    io::write_all(1, b"the frame is cut or too large\n");
+    stop()
+}
+
+fn unknown() -> Held {
+    io::write_all(1, b"the frame is unknown\n");
+    stop()
+}
+
+fn step(held: Held, table: &mut [u8], register: &mut [u8]) -> Held {
+    let mut letter = [0u8; 1];
+    let got = io::read_full(0, &mut letter);
+    if got == 0 {
+        return stop();
+    }
+    let kind = letter[0];
+    match kind {
+        b'G' => take_register(held, register),
+        b'P' => poke(held, table),
+        b'F' => format(held, table),
+        b'C' => check(held, table),
+        b'R' => read_form(held),
+        b'A' => answer(held, table, register),
+        b'N' => finish(held, table),
+        _ => unknown(),
+    }
+}
+
+fn take_register(held: Held, register: &mut [u8]) -> Held {
+    let n = read_bytes(register);
+    if lacks(register, n) {
+        return cut();
+    }
+    Held {
+        table: held.table,
+        register: n,
+        more: true,
+    }
+}
+
+fn poke(held: Held, table: &mut [u8]) -> Held {
+    let mut bytes = [0u8; 65536];
+    let at = read_number();
+    let n = read_bytes(&mut bytes);
+    let size = within(held.table, table);
+    if (size as u64) < at + n {
+        return cut();
+    }
+    let end = within(n, &bytes);
+    block::copy_at(table, at as usize, &bytes[..end]);
+    held
+}
+
+fn format(held: Held, table: &mut [u8]) -> Held {
+    let mut fields = [0u8; 13];
+    let got = io::read_full(0, &mut fields);
+    let size = block::get(&fields, 0, 4);
+    if (got < 13) | lacks(table, size) {
+        return cut();
+    }
+    let n = within(size, table);
+    format_call(&mut table[..n], fields[4], block::get(&fields, 5, 8));
+    Held {
+        table: size,
+        register: held.register,
+        more: true,
+    }
+}
+
+fn format_call(table: &mut [u8], v: u8, time: u64) {
+    fill(table, v);
+    let refusal = signon::format(table, time);
+    say_table(b"F", refusal, table);
+}
+
+fn check(held: Held, table: &[u8]) -> Held {
+    check_call(part(table, 0, held.table));
+    held
+}
+
+fn check_call(table: &[u8]) {
+    let refusal = signon::check(table);
+    say_table(b"C", refusal, table);
+}
+
+fn read_form(held: Held) -> Held {
+    let mut body = [0u8; 65536];
+    let n = read_bytes(&mut body);
+    if 65536 < n {
+        return cut();
+    }
+    let username = read_number();
+    let password = read_number();
+    if (4096 < username) | (4096 < password) {
+        return cut();
+    }
+    read_form_sized(part(&body, 0, n), username, password);
+    held
+}
+
+fn read_form_sized(body: &[u8], username_size: u64, password_size: u64) {
+    let mut username = [0u8; 4096];
+    let mut password = [0u8; 4096];
+    let u = within(username_size, &username);
+    let p = within(password_size, &password);
+    read_form_call(body, &mut username[..u], &mut password[..p]);
+}
+
+fn read_form_call(body: &[u8], username: &mut [u8], password: &mut [u8]) {
+    fill(username, 0xCC);
+    fill(password, 0xBB);
+    let form = signon::read_form(body, username, password);
+    say_form(form, username, password);
+}
+
+fn finish(held: Held, table: &mut [u8]) -> Held {
+    let mut fields = [0u8; 17];
+    let got = io::read_full(0, &mut fields);
+    let size = block::get(&fields, 13, 4);
+    if (got < 17) | (16384 < size) {
+        return cut();
+    }
+    let n = within(held.table, table);
+    finish_sized(
+        &mut table[..n],
+        block::get_u32(&fields, 0),
+        fields[4] != 0,
+        block::get(&fields, 5, 8),
+        size,
+    );
+    held
+}
+
+fn finish_sized(table: &mut [u8], serial: u32, outcome: bool, time: u64, size: u64) {
+    let mut out = [0u8; 16384];
+    let n = within(size, &out);
+    finish_call(table, serial, outcome, time, &mut out[..n]);
+}
+
+fn finish_call(table: &mut [u8], serial: u32, outcome: bool, time: u64, out: &mut [u8]) {
+    fill(out, 0xEE);
+    let outcome = signon::finish(table, serial, outcome, time, out);
+    say_outcome(b"N", outcome, out, b"", table);
+}
