@@ -1,0 +1,77 @@
+-- A list of the right length filled with a result's numbers; the exported calls are those of `signon`. Assumes nothing.
+use mathlib.Core.Path.{_≡_, refl, sym, ap, _∙_}
+use mathlib.Core.Bool.{Bool, true, false}
+use mathlib.Core.List.{List, [], _∷_}
+use Prim.Native.Nat.{ℕ, suc, _+_, _≤_}
+use native.Mathlib.Omega.{arith}
+use borrow.Author.Tests.{eq-eqb, ne-eqb}
+use lib.Dec.{eqb}
+use lib.ListN.{length, set}
+use Rattle.protocol.specs.Answers.{numberOf}
+use Rattle.protocol.specs.Calls.{Inputs, inputs, Result, result, answerOf, finishOf, FormRead, formRead, formOf}
+use Rattle.protocol.specs.declared.Method.{Method}
+use Rattle.protocol.specs.declared.Outcome.{Outcome}
+use Rattle.protocol.specs.declared.Form.{Form}
+use Rattle.export.specs.Numbers.{flag, methodOf, outcomeNumbers, formNumbers, Handed, handed, handedResult, answerHanded, finishHanded, HandedForm, handedForm, formHanded}
+
+seven : (l : List ℕ) (a b c d e f g : ℕ) → length l ≡ 7 → set (set (set (set (set (set (set l 0 a) 1 b) 2 c) 3 d) 4 e) 5 f) 6 g ≡ a ∷ b ∷ c ∷ d ∷ e ∷ f ∷ g ∷ []
+seven [] a b c d e f g h = absurd (omega arith)
+seven (x₁ ∷ []) a b c d e f g h = absurd (omega arith)
+seven (x₁ ∷ x₂ ∷ []) a b c d e f g h = absurd (omega arith)
+seven (x₁ ∷ x₂ ∷ x₃ ∷ []) a b c d e f g h = absurd (omega arith)
+seven (x₁ ∷ x₂ ∷ x₃ ∷ x₄ ∷ []) a b c d e f g h = absurd (omega arith)
+seven (x₁ ∷ x₂ ∷ x₃ ∷ x₄ ∷ x₅ ∷ []) a b c d e f g h = absurd (omega arith)
+seven (x₁ ∷ x₂ ∷ x₃ ∷ x₄ ∷ x₅ ∷ x₆ ∷ []) a b c d e f g h = absurd (omega arith)
+seven (x₁ ∷ x₂ ∷ x₃ ∷ x₄ ∷ x₅ ∷ x₆ ∷ x₇ ∷ []) a b c d e f g h = refl
+seven (x₁ ∷ x₂ ∷ x₃ ∷ x₄ ∷ x₅ ∷ x₆ ∷ x₇ ∷ x₈ ∷ l) a b c d e f g h = absurd (omega arith)
+
+three : (l : List ℕ) (a b c : ℕ) → length l ≡ 3 → set (set (set l 0 a) 1 b) 2 c ≡ a ∷ b ∷ c ∷ []
+three [] a b c h = absurd (omega arith)
+three (x₁ ∷ []) a b c h = absurd (omega arith)
+three (x₁ ∷ x₂ ∷ []) a b c h = absurd (omega arith)
+three (x₁ ∷ x₂ ∷ x₃ ∷ []) a b c h = refl
+three (x₁ ∷ x₂ ∷ x₃ ∷ x₄ ∷ l) a b c h = absurd (omega arith)
+
+pub outcome-put : (l : List ℕ) (o : Outcome) {k f : ℕ} → length l ≡ 7 → k ≡ numberOf (o .answer) → f ≡ flag (o .«cookie_cleared»)
+    → set (set (set (set (set (set (set l 0 (o .refusal)) 1 k) 2 (o .status)) 3 (o .length)) 4 (o .«cookie_length»)) 5 f) 6 (o .«callback_serial») ≡ outcomeNumbers o
+unfolding outcomeNumbers
+outcome-put l o {k} {f} h p q = seven l (o .refusal) k (o .status) (o .length) (o .«cookie_length») f (o .«callback_serial») h ∙ rw (p, q)
+
+pub form-put : (l : List ℕ) (f : Form) → length l ≡ 3 → set (set (set l 0 (f .refusal)) 1 (f .«username_length»)) 2 (f .«password_length») ≡ formNumbers f
+unfolding formNumbers
+form-put l f h = three l (f .refusal) (f .«username_length») (f .«password_length») h
+
+module _ (l t g : List ℕ) (post : Bool) (u b k : List ℕ) (n : ℕ) (x : List ℕ) (v : Bool) (o c : List ℕ) where
+  pub answer-none : (length l ≡ 7 → ⊥) → handed false l t o c ≡ answerHanded l (inputs t g (methodOf post) u b k n x v o c)
+  unfolding answerHanded
+  answer-none h = rw (ne-eqb (length l) 7 h)
+
+  pub answer-some : {l′ t′ o′ c′ : List ℕ} {r : Outcome} {m : Method} → length l ≡ 7 → m ≡ methodOf post → result r t′ o′ c′ ≡ answerOf (inputs t g m u b k n x v o c) → l′ ≡ outcomeNumbers r
+      → handed true l′ t′ o′ c′ ≡ answerHanded l (inputs t g (methodOf post) u b k n x v o c)
+  unfolding answerHanded
+  answer-some {l′} {t′} {o′} {c′} {r} {m} h q e w =
+      let f : handed true (outcomeNumbers r) t′ o′ c′ ≡ handedResult (answerOf (inputs t g m u b k n x v o c)) = ap handedResult e in
+      rw (eq-eqb (length l) 7 h, w, sym q) f
+
+module _ (l table : List ℕ) (serial : ℕ) (ok : Bool) (time : ℕ) (out : List ℕ) where
+  pub finish-none : (length l ≡ 7 → ⊥) → handed false l table out [] ≡ finishHanded l table serial ok time out
+  unfolding finishHanded
+  finish-none h = rw (ne-eqb (length l) 7 h)
+
+  pub finish-some : {l′ t o : List ℕ} {r : Outcome} → length l ≡ 7 → result r t o [] ≡ finishOf table serial ok time out → l′ ≡ outcomeNumbers r → handed true l′ t o [] ≡ finishHanded l table serial ok time out
+  unfolding finishHanded
+  finish-some {l′} {t} {o} {r} h e m =
+      let f : handed true (outcomeNumbers r) t o [] ≡ handedResult (finishOf table serial ok time out) = ap handedResult e in
+      rw (eq-eqb (length l) 7 h, m) f
+
+module _ (l body username password : List ℕ) where
+  pub form-none : (length l ≡ 3 → ⊥) → handedForm false l username password ≡ formHanded l body username password
+  unfolding formHanded
+  form-none h = rw (ne-eqb (length l) 3 h)
+
+  pub form-some : {l′ u p : List ℕ} {f : Form} → length l ≡ 3 → formRead f u p ≡ formOf body username password → l′ ≡ formNumbers f → handedForm true l′ u p ≡ formHanded l body username password
+  unfolding formHanded
+  form-some {l′} {u} {p} {f} h e m =
+      let g : handedForm true (formNumbers f) u p ≡ handedForm true (formNumbers (formOf body username password .form)) (formOf body username password .username) (formOf body username password .password) =
+      ap (λ (x : FormRead). handedForm true (formNumbers (x .form)) (x .username) (x .password)) e in
+      rw (eq-eqb (length l) 3 h, m) g

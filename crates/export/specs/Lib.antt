@@ -1,0 +1,2 @@
+-- What a linked host is handed.
+pub mod Numbers

@@ -1,0 +1,73 @@
+-- A result as a list of numbers, and each exported call as the call of `signon` that it is.
+use mathlib.Core.Bool.{Bool, true, false}
+use mathlib.Core.List.{List, [], _∷_}
+use Prim.Native.Nat.{ℕ}
+use lib.Dec.{eqb}
+use lib.ListN.{length}
+use Rattle.protocol.specs.Bytes.{if}
+use Rattle.protocol.specs.Answers.{numberOf}
+use Rattle.protocol.specs.Calls.{Inputs, Result, answerOf, finishOf, FormRead, formOf}
+use Rattle.protocol.specs.declared.Method.{Method}
+use Rattle.protocol.specs.declared.Method.the-variants as method
+use Rattle.protocol.specs.declared.Outcome.{Outcome}
+use Rattle.protocol.specs.declared.Form.{Form}
+
+abbrev pub flag : Bool → ℕ
+flag true = 1
+flag false = 0
+
+abbrev pub methodOf : Bool → Method
+methodOf true = method.Post
+methodOf false = method.Get
+
+-- refusal, kind, status, length, cookie length, cookie cleared, callback serial
+unfoldable pub outcomeNumbers : Outcome → List ℕ
+outcomeNumbers o =
+    o .refusal
+    ∷ numberOf (o .answer)
+    ∷ o .status
+    ∷ o .length
+    ∷ o .«cookie_length»
+    ∷ flag (o .«cookie_cleared»)
+    ∷ o .«callback_serial»
+    ∷ []
+
+-- refusal, length of the username, length of the password
+unfoldable pub formNumbers : Form → List ℕ
+formNumbers f = f .refusal ∷ f .«username_length» ∷ f .«password_length» ∷ []
+
+-- what comes back: whether the list had the right length, the list, and the bytes
+pub record Handed : Type 0 where
+  pub taken : Bool
+  pub list : List ℕ
+  pub table : List ℕ
+  pub out : List ℕ
+  pub cookie : List ℕ
+
+abbrev pub handed : Bool → List ℕ → List ℕ → List ℕ → List ℕ → Handed
+handed b l t o c = record { taken = b; list = l; table = t; out = o; cookie = c }
+
+abbrev pub handedResult : Result → Handed
+handedResult r = handed true (outcomeNumbers (r .outcome)) (r .table) (r .out) (r .cookie)
+
+-- a list of another length: false, and nothing is written
+unfoldable pub answerHanded : List ℕ → Inputs → Handed
+answerHanded l i = if (eqb (length l) 7) (handedResult (answerOf i)) (handed false l (i .table) (i .out) (i .cookieOut))
+
+unfoldable pub finishHanded : List ℕ → List ℕ → ℕ → Bool → ℕ → List ℕ → Handed
+finishHanded l table serial ok time out = if (eqb (length l) 7) (handedResult (finishOf table serial ok time out)) (handed false l table out [])
+
+pub record HandedForm : Type 0 where
+  pub taken : Bool
+  pub list : List ℕ
+  pub username : List ℕ
+  pub password : List ℕ
+
+abbrev pub handedForm : Bool → List ℕ → List ℕ → List ℕ → HandedForm
+handedForm b l u p = record { taken = b; list = l; username = u; password = p }
+
+unfoldable pub formHanded : List ℕ → List ℕ → List ℕ → List ℕ → HandedForm
+formHanded l body username password =
+    if (eqb (length l) 3)
+    (handedForm true (formNumbers (formOf body username password .form)) (formOf body username password .username) (formOf body username password .password))
+    (handedForm false l username password)
