@@ -1,9 +1,8 @@
 -- The dispatch, an arm at a time, in the form in which code knows its facts. Assumes nothing.
-use mathlib.Core.Path.{_≡_, refl, sym, ap, _∙_}
-use mathlib.Core.Bool.{Bool, true, false}
+use mathlib.Core.Path.{_≡_}
+use mathlib.Core.Bool.{Bool, false}
 use mathlib.Core.List.{List}
-use Prim.Native.Nat.{ℕ, _≤_}
-use lib.ListN.{length}
+use Prim.Native.Nat.{ℕ}
 use Rattle.protocol.specs.Table.{decodeTable}
 use Rattle.protocol.specs.Request.{pathNamed, pathPart, queryPart}
 use Rattle.protocol.specs.Answers.{ErrorPage}
@@ -15,7 +14,7 @@ use Rattle.protocol.specs.declared.Outcome.{Outcome}
 use Rattle.protocol.specs.declared.Path.{Path}
 use Rattle.protocol.specs.declared.Path.the-variants as path
 use Rattle.protocol.specs.declared.Validator.{Validator}
-use Rattle.protocol.proofs.Told.{only-said, done-as, did-as, done-did}
+use Rattle.protocol.proofs.Told.{only-said, done-as, done-did}
 use Rattle.offer.specs.Offers.{Supplied, broughtBy}
 use Rattle.logout.specs.Leaving.{leaving, Given as Leaving}
 use Rattle.proxy.specs.Asking.{asking, Given as Asking}

@@ -15,6 +15,7 @@ ghost use Rattle.route.specs.Lent.{Lent};
 
 // No such path, and no such method on it.
 const NOT_FOUND: u32 = 404;
+
 const NOT_TAKEN: u32 = 405;
 
 // GET reads the query.
@@ -89,7 +90,15 @@ pub fn request(
 {
     let path = query::path_of(target);
     match method {
-        Method::Get => by_get(table, register, path, query::query_of(target), cookie, random, out),
+        Method::Get => by_get(
+            table,
+            register,
+            path,
+            query::query_of(target),
+            cookie,
+            random,
+            out,
+        ),
         Method::Post => by_post(
             table,
             register,

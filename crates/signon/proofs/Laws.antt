@@ -1,8 +1,8 @@
 -- The calls: refused with nothing written, or answered on the table after the clock. Assumes nothing.
-use mathlib.Core.Path.{_≡_, refl, sym, ap, _∙_}
+use mathlib.Core.Path.{_≡_, sym, ap, _∙_}
 use mathlib.Core.Bool.{Bool, true, false}
 use mathlib.Core.List.{List, []}
-use Prim.Native.Nat.{ℕ, _-_, _/_, _%_, _≤_}
+use Prim.Native.Nat.{ℕ, _-_, _/_, _≤_}
 use native.Mathlib.Omega.{arith}
 use borrow.Author.Tests.{eq-eqb, ne-eqb, leb-true}
 use lib.Dec.{leb}
@@ -83,7 +83,7 @@ module _ (t : List ℕ) (n : ℕ) (o : List ℕ) {x : ℕ} (e : x ≡ finishRefu
     finish-done s v {b} {t′} {o′} {y} k d =
         did-delivered (done-did [] d) ∙ rw (k .is, ← e, eq-eqb x 0 z)
 
--- answer; what the refusals read besides, they read of every method, cookie and verdict alike
+-- answer: no refusal reads the method, the cookie or the verdict, so any will do for what an answered call knows
 module _ (t g u b : List ℕ) (n : ℕ) (d o c : List ℕ) {x : ℕ} (e : x ≡ answerRefusal t g (length u) (length b) n (length d) (length o) (length c)) (z : x ≡ 0) where
   told : Passed (inputs t g method.Get u b [] n d false o c)
   told = top-passed t g method.Get u b [] n d false o c e z

@@ -1,5 +1,4 @@
 -- `refuse::after_table` meets its contract: each test is a rung of the list. Assumes nothing.
-use borrow.Author.Needs.{needs}
 use Rattle.refuse.proofs.Laws.{rung-no, rung-yes, most-no, most-yes}
 use Rattle.refuse.proofs.after_table.Statement.{statement}
 use Rattle.refuse.proofs.after_table.Tie as tie
