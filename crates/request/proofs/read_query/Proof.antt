@@ -4,11 +4,8 @@ use Rattle.request.proofs.Laws.{ready-room, ready-bytes, read-wrote}
 use Rattle.request.proofs.read_query.Statement.{statement}
 use Rattle.request.proofs.read_query.Tie as tie
 
-decode-value-requires : tie.Need-decode-value-requires
-decode-value-requires c κs = search (needs, ready-room, ready-bytes)
-
 returns : tie.Need-returns
 returns c = search (needs, read-wrote)
 
 pub read-query-spec : {M : Type 1} → statement M
-read-query-spec = tie.close (tie.spec (λ c κs. search needs) decode-value-requires (λ c. search needs) returns)
+read-query-spec = tie.close (tie.spec (λ c κs. search needs) (λ c κs. search (needs, ready-room, ready-bytes)) (λ c. search needs) returns)
