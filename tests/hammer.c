@@ -14,7 +14,7 @@ static char target[2200], body[1200], cookie[200];
 /* Texts that answers showed, to be shown again. */
 static char tickets[KEPT][80], logins[64][80], grants[64][80], cookies[64][80];
 static int n_tickets, n_logins, n_grants, n_cookies;
-static uint8_t won[KEPT];
+static uint8_t won[KEPT], service_of[KEPT];
 static uint32_t serials[64];
 static int n_serials;
 
@@ -38,6 +38,15 @@ static const char *services[PANELS] = { "https://a.lan/p", "https://b.lan/q?i=2"
 
 static const char *pick(char kept[][80], int n) { return n ? kept[any() % (uint64_t)n] : "XX-1-00"; }
 
+/* Which service a text names first. */
+static uint8_t named(const char *text)
+{
+    for (int i = 0; i < PANELS; i++)
+        if (strstr(text, services[i]))
+            return (uint8_t)i;
+    return 0;
+}
+
 static void keep(char kept[][80], int *n, int most, const char *at, const char *stop)
 {
     size_t len = strcspn(at, stop);
@@ -52,6 +61,7 @@ static bool make_request(void)
 {
     const char *service = services[any() % PANELS], *renew = one_in(4) ? "&renew=1" : "", *gateway = one_in(6) ? "&gateway" : "";
     bool post = one_in(3);
+    int shown;
     body[0] = 0;
     snprintf(cookie, sizeof cookie, "%s", one_in(3) ? "" : pick(cookies, n_cookies));
     switch (any() % 8) {
@@ -67,8 +77,11 @@ static bool make_request(void)
     case 3:
     case 4:
         post = false;
+        shown = n_tickets ? (int)(n_tickets > 8 && !one_in(4) ? n_tickets - 1 - (int)(any() % 8) : (int)(any() % (uint64_t)n_tickets)) : -1;
+        if (shown >= 0 && !one_in(6))
+            service = services[service_of[shown]];
         snprintf(target, sizeof target, "/cas/%s?service=%s&ticket=%s%s%s", one_in(3) ? "validate" : one_in(2) ? "serviceValidate" : "proxyValidate", service,
-                 n_tickets ? tickets[any() % (uint64_t)n_tickets] : "ST-1-00", renew, one_in(2) ? "&pgtUrl=https://a.lan/cb" : "");
+                 shown >= 0 ? tickets[shown] : "ST-1-00", renew, one_in(2) ? "&pgtUrl=https://a.lan/cb" : "");
         break;
     case 5:
         post = false;
@@ -123,10 +136,14 @@ static void learn(void)
     said[n] = 0;
     if ((at = strstr(said, "value=\"LT-")))
         keep(logins, &n_logins, 64, at + 7, "\"");
-    if (outcome[PYHTIRSO_KIND] == 2 && (at = strstr(said, "ticket=ST-")) && n_tickets < KEPT)
+    if (outcome[PYHTIRSO_KIND] == 2 && (at = strstr(said, "ticket=ST-")) && n_tickets < KEPT) {
+        service_of[n_tickets] = named(said);
         keep(tickets, &n_tickets, KEPT, at + 7, "\n");
-    if ((at = strstr(said, "<cas:proxyTicket>PT-")) && n_tickets < KEPT)
+    }
+    if ((at = strstr(said, "<cas:proxyTicket>PT-")) && n_tickets < KEPT) {
+        service_of[n_tickets] = named(target);
         keep(tickets, &n_tickets, KEPT, at + 17, "<");
+    }
     if (outcome[PYHTIRSO_KIND] == 5) {
         keep(grants, &n_grants, 64, strstr(said, "pgtId=") + 6, "&");
         serials[n_serials++ % 64] = (uint32_t)outcome[PYHTIRSO_CALLBACK_SERIAL];
