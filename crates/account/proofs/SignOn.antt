@@ -17,6 +17,7 @@ use Rattle.protocol.specs.declared.Path.the-variants as path
 use Rattle.protocol.proofs.Laws.{both, same-refl}
 use Rattle.protocol.proofs.Kept.{put-same}
 use Rattle.protocol.proofs.Added.{Room, room-one}
+use Rattle.protocol.proofs.StepSound.{room-less, room-after}
 use Rattle.account.specs.History.{Text, Asked}
 use Rattle.account.specs.Clauses.{changedAt, admitting}
 use Rattle.account.specs.Reading.{Item, Showed, Ended, Opened, Issued, isForm, readSession, cookieAfter, readLoginPost}
@@ -26,7 +27,7 @@ use Rattle.account.proofs.Reached.{Reached}
 use Rattle.account.proofs.Items.{reach-show, reach-unended, reach-open, reach-issue}
 use Rattle.account.proofs.Rules.{reach-changed}
 use Rattle.account.proofs.Texts.{letters, ticket-read, form-401, page-503, page-in}
-use Rattle.account.proofs.Counts.{Ok, ok-by, slot-named, room-less, room-after}
+use Rattle.account.proofs.Counts.{Ok, ok-by, slot-named}
 use Rattle.account.specs.Account.{issuesIn, acceptsIn, sumIn}
 use Rattle.account.proofs.LoginGet.{new-letters, new-some}
 

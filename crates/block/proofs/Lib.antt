@@ -4,3 +4,4 @@ pub mod Lay
 pub mod Sums
 pub mod Parts
 pub mod Within
+pub mod Bytewise

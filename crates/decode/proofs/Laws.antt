@@ -11,8 +11,8 @@ use borrow.Author.Tests.{le-leb, lt-leb, eq-eqb, ne-eqb, ltb-true, ltb-false, le
 use Rattle.protocol.specs.Bytes.{if, within, allWithin}
 use Rattle.protocol.specs.Request.{hexValue, hexLeads, unitOf, skipOf, decodedFrom, decoded}
 use Rattle.protocol.specs.Written.{Wrote}
-use Rattle.protocol.proofs.Laws.{both}
-use Rattle.text.proofs.Splice.{Left, left-byte, left-lt, left-done, drop-step}
+use Rattle.protocol.proofs.Laws.{both, drop-step}
+use Rattle.text.proofs.Splice.{Left, left-byte, left-lt, left-done}
 use Rattle.decode.specs.Judging.{Hex, UnitAt, judged}
 use Rattle.decode.specs.declared.Judged.the-variants.{Bad, Good}
 

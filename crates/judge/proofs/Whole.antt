@@ -1,50 +1,27 @@
 -- The judge's tests are the law: bytes that pass are those of a table that keeps the rules, and only they pass. Assumes nothing.
 use mathlib.Core.Path.{_≡_, refl, sym, ap, _∙_}
 use mathlib.Core.Bool.{Bool, true, false, _&&_, _||_, not}
-use mathlib.Core.List.{List, [], _∷_, _++_}
+use mathlib.Core.List.{List, [], _∷_}
 use Prim.Native.Nat.{ℕ, zero, suc, _+_, _-_, _*_, _/_, _<_, _≤_}
 use native.Mathlib.Numerals.{add-one}
 use native.Mathlib.Omega.{arith}
 use native.Mathlib.Decide.{decLt, decLe}
-use borrow.Author.Tests.{eq-eqb, eqb-true, leb-true, le-leb}
+use borrow.Author.Tests.{leb-true, le-leb}
 use lib.Dec.{eqb, leb, lit≤}
 use lib.ListN.{length, take, drop, getD, List·getD-eq-default}
-use lib.Seq.{take-all, take-take, length-take-le}
+use lib.Seq.{take-take, length-take-le}
 use Rattle.protocol.specs.Bytes.{same, part, num, bytesOf}
-use Rattle.protocol.specs.Blocks.{houseCheck, checkRight, sealed}
+use Rattle.protocol.specs.Blocks.{checkRight, sealed}
 use Rattle.protocol.specs.Tickets.{aFree, aLogin}
 use Rattle.protocol.specs.Records.{Rec, freeRec, recBody, encodeRec, decodeRec, ownRight}
 use Rattle.protocol.specs.Table.{headBody, decodeTable, countKind, serialTaken, serialsDiffer, sessionRight, parentRight, tableLawful, loginCap, lastTime}
-use Rattle.protocol.proofs.Laws.{both, both5, same-eq, same-refl, recRight, Rules, rules, rules-hold, sized-read, length-body, lawful-bytes, lawful-fits, lawful-clock, lawful-rules}
-use Rattle.protocol.proofs.Notice.{house-below}
+use Rattle.protocol.proofs.Laws.{both, both5, same-eq, same-refl, recRight, Rules, rules, rules-hold, sized-read, length-body, part-long, lawful-bytes, lawful-fits, lawful-clock, lawful-rules}
 use Rattle.protocol.proofs.Places.{head-bytes, slots-count, lawful-by-blocks, block-lawful}
 use Rattle.protocol.proofs.Kept.{free-right, right-all, right-slot}
-use Rattle.rules.proofs.Bytewise.{one-test, length-part, front-test, field-test, part-bytes}
-use Rattle.rules.proofs.Laws.{Bytes}
+use Rattle.block.proofs.Bytewise.{one-test, part-bytes, sealed-test, Bytes}
 use Rattle.block.proofs.Parts.{part-part}
 use Rattle.judge.specs.Tests.{blockAt, saidAt, aloneAt, slotRight, allFrom, headRight, judged}
 use Rattle.judge.proofs.Slots.{said-block}
-
--- A block: its 508 bytes and its check
-
-under : (a x y : Bool) → (a ≡ true → x ≡ y) → a && x ≡ a && y
-under true x y f = f refl
-under false x y f = refl
-
-eqb-turn : (m n : ℕ) → eqb m n ≡ eqb n m
-eqb-turn m n = one-test (eqb m n) (eqb n m) (λ e. eq-eqb n m (sym (eqb-true m n e))) (λ e. eq-eqb m n (sym (eqb-true n m e)))
-
--- a block is a sealed one where its 508 bytes are right, and its check
-sealed-test : (b body : List ℕ) → length b ≡ 512 → ((i : ℕ) → getD b i 0 < 256) → length body ≡ 508 → same (take 508 b) body && checkRight b ≡ same b (sealed body)
-unfolding sealed checkRight
-sealed-test b body h y l =
-    let f : same (part 508 4 b) (bytesOf 4 (houseCheck body)) ≡ eqb (num 508 4 b) (houseCheck body) = field-test b y 508 4 (houseCheck body) (omega arith) (house-below body) in
-    let s : same (part 0 512 b) (body ++ bytesOf 4 (houseCheck body)) ≡ same (part 0 508 b) body && eqb (num 508 4 b) (houseCheck body) =
-    front-test b body (bytesOf 4 (houseCheck body)) 0 508 4 l (omega arith) refl f in
-    let w : part 0 512 b ≡ b = take-all 512 b (omega arith) in
-    under (same (take 508 b) body) (eqb (houseCheck (take 508 b)) (num 508 4 b)) (eqb (num 508 4 b) (houseCheck body))
-    (λ e. ap (λ (x : List ℕ). eqb (houseCheck x) (num 508 4 b)) (same-eq (take 508 b) body e) ∙ eqb-turn (houseCheck body) (num 508 4 b))
-    ∙ sym (rw w at s)
 
 -- Slots, all and each
 
@@ -89,7 +66,7 @@ module _ (b : List ℕ) (m : ℕ) (h : length b ≡ 512 * m + 512) (few : m ≤ 
   count = omega arith
 
   block-long : (k : ℕ) → k ≤ m → length (blockAt k b) ≡ 512
-  block-long k g = length-part b (512 * k) 512 (omega arith)
+  block-long k g = part-long (512 * k) 512 b (omega arith)
 
   block-bytes : (k : ℕ) → k ≤ m → (i : ℕ) → getD (blockAt k b) i 0 < 256
   block-bytes k g = part-bytes b (y .each) (512 * k) 512 (omega arith)

@@ -21,6 +21,7 @@ use Rattle.protocol.proofs.Laws.{both}
 use Rattle.protocol.proofs.StepSound.{query-service}
 use Rattle.protocol.proofs.Told.{only-said, done-as}
 use Rattle.protocol.proofs.Held.{found-in}
+use Rattle.protocol.specs.Calls.{broughtBy}
 use Rattle.find.specs.declared.Found.{Found}
 use Rattle.find.specs.declared.Found.the-variants.{At, Nothing}
 use Rattle.find.specs.Searches.{foundAt}
@@ -29,7 +30,6 @@ use Rattle.request.specs.declared.LoginQuery.{LoginQuery}
 use Rattle.request.specs.declared.LoginQuery.the-variants as login-query
 use Rattle.request.specs.Requests.{loginQueryOf}
 use Rattle.request.proofs.Values.{login-told, read-front}
-use Rattle.offer.specs.Offers.{broughtBy}
 use Rattle.offer.proofs.Laws.{none-given, some-given}
 use Rattle.login.specs.Ways.{knownLogin, wayOf, stepOn}
 use Rattle.login.specs.declared.Way.{Way}

@@ -12,7 +12,8 @@ ghost use Rattle.protocol.specs.Register.{decodeRegister, registerLawful};
 ghost use Rattle.protocol.specs.Request.{loginNames, malformed, fromQuery};
 ghost use Rattle.protocol.specs.Steps.{signedOn, unknownService, loginGet};
 ghost use Rattle.protocol.specs.Held.{Fine, In, Done};
-ghost use Rattle.offer.specs.Offers.{Offer, Supplied, broughtBy};
+ghost use Rattle.protocol.specs.Calls.{broughtBy};
+ghost use Rattle.offer.specs.Offers.{Offer, Supplied};
 ghost use Rattle.login.specs.Ways.{wayOf, knownLogin};
 
 // What a request that is not malformed comes to.

@@ -2,24 +2,23 @@
 use mathlib.Core.Path.{_≡_, refl, sym, ap, _∙_}
 use mathlib.Core.Bool.{Bool, true, false}
 use mathlib.Core.List.{List, []}
-use Prim.Native.Nat.{ℕ, zero, suc, _+_, _*_, _≤_, _<_}
+use Prim.Native.Nat.{ℕ, _≤_}
 use native.Mathlib.Omega.{arith}
 use native.Mathlib.Nat.{zero-add}
-use lib.Dec.{eqb}
 use lib.ListN.{length, take}
 use borrow.Author.Tests.{eq-eqb, ne-eqb}
 use Rattle.protocol.specs.Bytes.{if, ascii}
 use Rattle.protocol.specs.Tickets.{aSession}
 use Rattle.protocol.specs.Table.{Table, decodeTable}
 use Rattle.protocol.specs.Register.{Entry, registered}
-use Rattle.protocol.specs.Request.{malformed, logoutNames, fromQuery, valueOf, decoded, rawValue}
+use Rattle.protocol.specs.Request.{malformed, logoutNames, fromQuery, decoded, rawValue}
 use Rattle.protocol.specs.Answers.{ErrorPage, SignedOut}
-use Rattle.protocol.specs.Steps.{Brought, slotNamed, sessionOf, endSession, linkTo, logout}
-use Rattle.protocol.specs.Calls.{outcomeWith}
+use Rattle.protocol.specs.Steps.{Brought, slotNamed, endSession, linkTo, logout}
+use Rattle.protocol.specs.Calls.{outcomeWith, clearedIf}
 use Rattle.protocol.specs.Written.{Wrote}
 use Rattle.protocol.specs.Held.{Fine, Holds, Said, Done}
 use Rattle.protocol.specs.declared.Outcome.{Outcome}
-use Rattle.protocol.proofs.Held.{holds-self, holds-same}
+use Rattle.protocol.proofs.Held.{holds-self}
 use Rattle.protocol.proofs.Told.{only-said, done-as}
 use Rattle.text.proofs.Splice.{read-back}
 use Rattle.find.specs.Searches.{foundAt}
@@ -27,11 +26,10 @@ use Rattle.find.specs.declared.Found.{Found}
 use Rattle.find.specs.declared.Found.the-variants.{At, Nothing}
 use Rattle.find.proofs.Laws.{found-is, found-low, found-none}
 use Rattle.request.specs.Requests.{Ready, logoutQueryOf}
-use Rattle.request.specs.Given.{LogoutGiven}
 use Rattle.request.specs.declared.LogoutQuery.{LogoutQuery}
 use Rattle.request.specs.declared.LogoutQuery.the-variants as logout-query
 use Rattle.request.proofs.Values.{logout-told, logout-url, read-front}
-use Rattle.logout.specs.Leaving.{left, signedOut, clearedBy}
+use Rattle.logout.specs.Leaving.{left, signedOut}
 
 -- the session ended, or none was there
 pub ended : (b b′ cookie : List ℕ) (k : ℕ) {f : Found} → f ≡ foundAt (slotNamed aSession cookie (decodeTable b)) → f ≡ At k → Holds b′ (endSession k (decodeTable b)) → Holds b′ (left cookie (decodeTable b))
@@ -57,10 +55,10 @@ unfolding linkTo
 unlinked url o o′ es e t s = let w : registered url es ≡ false = sym e ∙ t in rw w s
 
 -- the page said over the table that is left, and the cookie cleared
-pub left-done : (b b′ o o′ url cookie : List ℕ) (es : List Entry) {r r′ : Outcome} → Holds b′ (left cookie (decodeTable b)) → Said (SignedOut (linkTo url es)) r o o′ → r′ ≡ clearedBy r
+pub left-done : (b b′ o o′ url cookie : List ℕ) (es : List Entry) {r r′ : Outcome} → Holds b′ (left cookie (decodeTable b)) → Said (SignedOut (linkTo url es)) r o o′ → r′ ≡ clearedIf true r
     → Done (signedOut url (record { register = es; cookie = cookie; random = []; verdict = false }) (decodeTable b)) r′ b′ o o′
 unfolding signedOut outcomeWith
-left-done b b′ o o′ url cookie es h s e = record { outcome = e ∙ ap clearedBy (s .outcome); table = h; out = s .out; cookie = refl }
+left-done b b′ o o′ url cookie es h s e = record { outcome = e ∙ ap (clearedIf true) (s .outcome); table = h; out = s .out; cookie = refl }
 
 -- a well-formed request, and a malformed one
 pub well-formed : (q : List ℕ) (g : Brought) (t : Table) → malformed false logoutNames q ≡ false → signedOut (fromQuery "url" q) g t ≡ logout q g t

@@ -1,6 +1,6 @@
 -- Logout once its request is read: protocol's step from there on.
 use mathlib.Core.Path.{_≡_}
-use mathlib.Core.Bool.{Bool, true, false}
+use mathlib.Core.Bool.{true, false}
 use mathlib.Core.List.{List, []}
 use Prim.Native.Nat.{ℕ, _≤_}
 use lib.Dec.{eqb}
@@ -11,7 +11,6 @@ use Rattle.protocol.specs.Register.{decodeRegister, registerLawful}
 use Rattle.protocol.specs.Answers.{SignedOut}
 use Rattle.protocol.specs.Steps.{Brought, Step, sessionOf, endSession, linkTo}
 use Rattle.protocol.specs.Held.{Fine}
-use Rattle.protocol.specs.declared.Outcome.{Outcome}
 
 -- what logout is lent
 pub record Given (table register out : List ℕ) : Type 0 where
@@ -30,16 +29,3 @@ left cookie t = if (eqb (sessionOf cookie t) 0) t (endSession (sessionOf cookie 
 -- a well-formed request's step
 unfoldable pub signedOut : List ℕ → Brought → Table → Step
 signedOut url g t = record { table = left (g .cookie) t; reply = SignedOut (linkTo url (g .register)); cookie = []; cleared = true }
-
--- the result with the cookie cleared
-abbrev pub clearedBy : Outcome → Outcome
-clearedBy o =
-    record {
-      refusal = o .refusal;
-      answer = o .answer;
-      status = o .status;
-      length = o .length;
-      «cookie_length» = o .«cookie_length»;
-      «cookie_cleared» = true;
-      «callback_serial» = o .«callback_serial»;
-    }

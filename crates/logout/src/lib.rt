@@ -15,7 +15,8 @@ ghost use Rattle.protocol.specs.Answers.{SignedOut};
 ghost use Rattle.protocol.specs.Steps.{linkTo, logout};
 ghost use Rattle.protocol.specs.Held.{Fine, Holds, Said, Done};
 ghost use Rattle.request.specs.Requests.{Ready};
-ghost use Rattle.logout.specs.Leaving.{Given, leaving, left, signedOut, clearedBy};
+ghost use Rattle.protocol.specs.Calls.{clearedIf};
+ghost use Rattle.logout.specs.Leaving.{Given, leaving, left, signedOut};
 
 // The cookie's live session ends, where there is one.
 fn end_named(table: &mut [u8], cookie: &[u8])
@@ -41,7 +42,7 @@ fn say_link(register: &[u8], url: &[u8], out: &mut [u8]) -> Outcome
 
 // The same result, with the cookie cleared.
 fn cleared(o: Outcome) -> Outcome
-    ensures { λ r. ⌜ r ≡ clearedBy o ⌝ }
+    ensures { λ r. ⌜ r ≡ clearedIf true o ⌝ }
 {
     let answer = o.answer;
     Outcome {

@@ -2,19 +2,20 @@
 use mathlib.Core.Path.{_≡_, refl, sym, ap, _∙_}
 use mathlib.Core.Bool.{Bool, true, false, _&&_}
 use mathlib.Core.List.{List, [], _∷_, _++_, append-assoc, append-nil, map}
-use Prim.Native.Nat.{ℕ, zero, suc, _+_, _-_, _*_, _/_, _%_, _^_, _<_, _≤_}
+use Prim.Native.Nat.{ℕ, zero, suc, _+_, _-_, _*_, _/_, _^_, _<_, _≤_}
 use native.Mathlib.Nat.{pow-suc, mul-comm}
+use native.Mathlib.Numerals.{add-one}
 use native.Mathlib.Omega.{arith}
-use borrow.Author.Tests.{eq-eqb, ne-eqb, eqb-true, leb-true, le-leb}
+use borrow.Author.Tests.{eq-eqb, eqb-true, leb-true, le-leb}
 use lib.Dec.{eqb, leb}
-use lib.ListN.{length, take, drop, getD, replicate, length-append, length-drop, length-replicate, length-map}
-use lib.Seq.{take-at, drop-at, length-take-le}
+use lib.ListN.{length, take, drop, getD, length-append, length-drop, length-replicate}
+use lib.Seq.{take-at, drop-at, length-take-le, drop-cons}
 use Rattle.protocol.specs.Bytes.{if, same, within, allWithin, zeros, padTo, part, num, leOf, bytesOf, joined, blocks}
 use Rattle.protocol.specs.Blocks.{sealed, houseCheck}
-use Rattle.protocol.specs.Records.{Rec, freeRec, recBody, encodeRec, decodeRec, textRight, fieldsRight, serialRight, expiryRight, ownRight}
+use Rattle.protocol.specs.Records.{Rec, recBody, encodeRec, decodeRec, textRight, fieldsRight, serialRight, expiryRight, ownRight}
 use Rattle.protocol.specs.Tickets.{markMost, depthLeast, depthMost, textLeast, textMost, aFree, aLogin, aWaiting, secretLength}
 use Rattle.protocol.specs.Held.{Sized, Fits, AllFit}
-use Rattle.protocol.specs.Table.{Table, tableOf, headBody, encodeTable, decodeTable, tableLawful, rulesHold, allRight, sessionRight, parentRight, serialsDiffer, countKind, loginCap, lastTime}
+use Rattle.protocol.specs.Table.{Table, headBody, encodeTable, decodeTable, tableLawful, rulesHold, allRight, sessionRight, parentRight, serialsDiffer, countKind, loginCap, lastTime}
 
 -- both tests
 pub both : (a b : Bool) → a && b ≡ true → (a ≡ true) × (b ≡ true)
@@ -341,8 +342,12 @@ right-cons c n slots r rs e = both (recRight c n slots r) (allRight c n slots rs
 pub right-own : (c n : ℕ) (slots : List Rec) (r : Rec) → recRight c n slots r ≡ true → ownRight c n r ≡ true
 right-own c n slots r e = both (ownRight c n r) (sessionRight slots r) (both (ownRight c n r && sessionRight slots r) (parentRight slots r) e .0) .0
 
+-- one step of a walk along a text
+pub drop-step : (s : List ℕ) (i : ℕ) → i < length s → drop i s ≡ getD s i 0 ∷ drop (i + 1) s
+drop-step s i h = rw (add-one, drop-cons s i 0)
+
 -- a block's parts have their lengths
-part-long : (at n : ℕ) (b : List ℕ) → at + n ≤ length b → length (part at n b) ≡ n
+pub part-long : (at n : ℕ) (b : List ℕ) → at + n ≤ length b → length (part at n b) ≡ n
 part-long at n b h = length-take-le n (drop at b) (omega (arith, length-drop at b))
 
 pub sized-read : (c n : ℕ) (b : List ℕ) → length b ≡ 512 → ownRight c n (decodeRec b) ≡ true → Sized (decodeRec b)

@@ -1,26 +1,24 @@
 -- Every step keeps a sound table sound. Assumes nothing.
-use mathlib.Core.Path.{_≡_, refl, sym, ap, _∙_}
+use mathlib.Core.Path.{_≡_, refl, ap, _∙_}
 use mathlib.Core.Bool.{Bool, true, false, _&&_, _||_, not}
-use mathlib.Core.List.{List, [], _∷_, map}
+use mathlib.Core.List.{List, [], _∷_}
 use Prim.Native.Nat.{ℕ, zero, suc, _+_, _%_, _≤_, _<_, min}
 use native.Mathlib.Omega.{arith}
-use borrow.Author.Tests.{eq-eqb, ne-eqb, eqb-true, eqb-false, leb-true, le-leb, ltb-true, ltb-false, le-ltb, not-false, not-true}
+use borrow.Author.Tests.{eq-eqb, ne-eqb, eqb-true, eqb-false, leb-true, le-leb, ltb-true, le-ltb, not-false}
 use lib.Dec.{eqb, leb, ltb}
 use lib.ListN.{length, getD, set}
 use Rattle.protocol.specs.Bytes.{if, ascii, isEmpty, same, among, allWithin}
-use Rattle.protocol.specs.Tickets.{aLogin, aSession, aService, aProxy, aWaiting, aGrant, lifetime, markMost, depthLeast, depthMost, textLeast, textMost, deepest}
+use Rattle.protocol.specs.Tickets.{aLogin, aSession, lifetime, markMost, depthLeast, depthMost, textLeast, textMost}
 use Rattle.protocol.specs.Records.{Rec, freeRec, live, nameOf}
-use Rattle.protocol.specs.Table.{Table, tableOf, recAt, putAt, sessionRight, parentRight, grantRight, countKind, loginCap, slotWhere}
-use Rattle.protocol.specs.Register.{Entry}
+use Rattle.protocol.specs.Table.{Table, recAt, putAt, sessionRight, parentRight, countKind, loginCap}
 use Rattle.protocol.specs.Request.{loginNames, logoutNames, bodyNames, malformed, badName, occurrences, rawValue, decoded, valueRight, valueMost, charsRight, valueOf, fromQuery, fromBody, present}
-use Rattle.protocol.specs.Answers.{Reply, ErrorPage, SignedIn, SignedOut, FormPage, RedirectTo}
-use Rattle.protocol.specs.Steps.{Brought, Step, step, tick, remove, endSession, isNamed, slotNamed, sessionOf, slotFor, roomFor, expiryFor, newRec, add, formWith, formStep, ticketWith, ticketStep, signedOn, loginPage, unknownService, loginGet, admitted, newSession, needs, issueAll, accepted, credentials, loginTicket, loginPost, linkTo, logout}
+use Rattle.protocol.specs.Answers.{ErrorPage, SignedIn, SignedOut, RedirectTo}
+use Rattle.protocol.specs.Steps.{Brought, Step, step, remove, endSession, isNamed, slotNamed, sessionOf, slotFor, roomFor, expiryFor, newRec, add, formWith, formStep, ticketWith, ticketStep, signedOn, loginPage, unknownService, loginGet, admitted, newSession, needs, issueAll, accepted, credentials, loginTicket, loginPost, linkTo, logout}
 use Rattle.protocol.specs.declared.Path.the-variants as path
-use Rattle.protocol.specs.Held.{Fits}
-use Rattle.protocol.proofs.Laws.{both, recRight, Rules}
-use Rattle.protocol.proofs.Kept.{session-view, parent-view, recs3, right-slot, same-links, put-other, put-same, Unnamed, leaf-unnamed}
-use Rattle.protocol.proofs.Added.{Room, room-one, Chosen, slot-chosen}
-use Rattle.protocol.proofs.Sound.{Sound, Kind, login-kind, session-kind, service-kind, new-fits, new-own, add-sound, remove-sound, end-sound}
+use Rattle.protocol.proofs.Laws.{both, recRight}
+use Rattle.protocol.proofs.Kept.{recs3, same-links, put-other, put-same, leaf-unnamed}
+use Rattle.protocol.proofs.Added.{Room, room-one, slot-chosen}
+use Rattle.protocol.proofs.Sound.{Sound, login-kind, session-kind, service-kind, new-fits, new-own, add-sound, remove-sound, end-sound}
 
 -- by a test
 pub case-sound : (z : Bool) (a b : Step) → (z ≡ true → Sound (a .table)) → (z ≡ false → Sound (b .table)) → Sound ((if z a b) .table)
@@ -235,7 +233,7 @@ lt-sound body t s (suc k) e =
 
 -- Room for two is room for one, and after one again for one
 
-room-less : (t : Table) → roomFor 2 t ≡ true → roomFor 1 t ≡ true
+pub room-less : (t : Table) → roomFor 2 t ≡ true → roomFor 1 t ≡ true
 unfolding roomFor
 room-less t e =
     let p = both (leb 2 (countKind 0 (t .slots))) (leb 1 (t .next) && leb (t .next + 2) 4294967296) e in
@@ -252,7 +250,7 @@ put-taken : (x : Rec) (slots : List Rec) (k : ℕ) → 1 ≤ k → k ≤ length 
 put-taken x slots zero h g e n = absurd (omega arith)
 put-taken x slots (suc k) h g e n = count-taken x slots k (omega arith) e n
 
-room-after : (x : Rec) (t : Table) → (x .kind ≡ 0 → ⊥) → Room t → roomFor 2 t ≡ true → roomFor 1 (add x t) ≡ true
+pub room-after : (x : Rec) (t : Table) → (x .kind ≡ 0 → ⊥) → Room t → roomFor 2 t ≡ true → roomFor 1 (add x t) ≡ true
 unfolding roomFor add
 room-after x t n m e =
     let p = both (leb 2 (countKind 0 (t .slots))) (leb 1 (t .next) && leb (t .next + 2) 4294967296) e in

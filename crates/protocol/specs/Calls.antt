@@ -1,11 +1,11 @@
 -- The calls: all that goes in, all that comes out, and the function between.
-use mathlib.Core.Bool.{Bool, true, false, _&&_, _||_, not}
-use mathlib.Core.List.{List, [], _∷_}
-use Prim.Native.Nat.{ℕ, _+_, _-_, _/_}
-use lib.Dec.{eqb, leb, ltb}
+use mathlib.Core.Bool.{Bool, true, false, _&&_, not}
+use mathlib.Core.List.{List, []}
+use Prim.Native.Nat.{ℕ, _-_, _/_}
+use lib.Dec.{eqb, leb}
 use lib.ListN.{length}
 use Rattle.protocol.specs.Bytes.{if, isEmpty, spliced}
-use Rattle.protocol.specs.Table.{Table, encodeTable, decodeTable, tableShape, tableLawful, lastTime, formatted}
+use Rattle.protocol.specs.Table.{encodeTable, decodeTable, tableShape, tableLawful, lastTime, formatted}
 use Rattle.protocol.specs.Register.{decodeRegister, registerLawful}
 use Rattle.protocol.specs.Request.{pathPart, queryPart, pathNamed, bodyNames, malformed, fromBody}
 use Rattle.protocol.specs.Answers.{Reply, replyText, replyAnswer, statusOf, serialOf}
@@ -34,6 +34,32 @@ outcomeWith reply cookie cleared =
       «cookie_length» = cookie;
       «cookie_cleared» = cleared;
       «callback_serial» = serialOf (replyAnswer reply);
+    }
+
+-- a result with the length of the cookie that was written
+abbrev pub cookied : ℕ → Outcome → Outcome
+cookied n r =
+    record {
+      refusal = r .refusal;
+      answer = r .answer;
+      status = r .status;
+      length = r .length;
+      «cookie_length» = n;
+      «cookie_cleared» = r .«cookie_cleared»;
+      «callback_serial» = r .«callback_serial»;
+    }
+
+-- a result with the cookie cleared, or not
+abbrev pub clearedIf : Bool → Outcome → Outcome
+clearedIf ended r =
+    record {
+      refusal = r .refusal;
+      answer = r .answer;
+      status = r .status;
+      length = r .length;
+      «cookie_length» = r .«cookie_length»;
+      «cookie_cleared» = ended;
+      «callback_serial» = r .«callback_serial»;
     }
 
 abbrev pub outcomeOf : Step → Outcome
@@ -88,8 +114,16 @@ answerRefusal table register target body time random out cookie =
 abbrev pub refusal : Inputs → ℕ
 refusal i = answerRefusal (i .table) (i .register) (length (i .target)) (length (i .body)) (i .time) (length (i .random)) (length (i .out)) (length (i .cookieOut))
 
+-- what a request brings, by the bytes of the register
+abbrev pub broughtBy : List ℕ → List ℕ → List ℕ → Bool → Brought
+broughtBy register cookie random verdict = record { register = decodeRegister register; cookie = cookie; random = random; verdict = verdict }
+
 abbrev pub brought : Inputs → Brought
-brought i = record { register = decodeRegister (i .register); cookie = i .cookie; random = i .random; verdict = i .verdict }
+brought i = broughtBy (i .register) (i .cookie) (i .random) (i .verdict)
+
+-- and what a validator or proxy reads of it: no cookie and no verdict
+abbrev pub bringing : List ℕ → List ℕ → Brought
+bringing register random = broughtBy register [] random false
 
 -- what the request does to the table after the clock
 unfoldable pub stepOf : Inputs → Step

@@ -2,11 +2,12 @@
 use mathlib.Core.Path.{_≡_}
 use mathlib.Core.Bool.{true, false}
 use mathlib.Core.List.{List, [], _∷_}
-use Prim.Native.Nat.{ℕ, _+_, _*_, _^_, _≤_, _<_}
+use Prim.Native.Nat.{ℕ, _+_, _*_, _≤_, _<_}
 use lib.ListN.{length}
 use Rattle.protocol.specs.Bytes.{spliced}
 use Rattle.protocol.specs.Records.{Rec}
 use Rattle.protocol.specs.Table.{Table, encodeTable, decodeTable, rulesHold, lastTime}
+use Rattle.protocol.specs.Register.{registerLawful}
 use Rattle.protocol.specs.Answers.{Reply, replyText}
 use Rattle.protocol.specs.Steps.{Step}
 use Rattle.protocol.specs.Calls.{outcomeWith, outcomeOf}
@@ -53,6 +54,14 @@ pub record In (k : ℕ) (b : List ℕ) : Type 0 where
 pub record Lawful (b : List ℕ) : Type 0 where
   pub fine : Fine b
   pub rules : rulesHold (decodeTable b) ≡ true
+
+-- what a step is lent, once the call is not refused and the clock is set: such a table, a register, the random input, and an output with
+-- room for any answer
+pub record Lent (table register random out : List ℕ) : Type 0 where
+  pub lawful : Lawful table
+  pub panels : registerLawful register ≡ true
+  pub drawn : length random ≡ 48
+  pub room : 8192 ≤ length out
 
 -- A reply was said: the result r is one without a cookie, and the output, o before and o′ after it, holds the reply's bytes
 pub record Said (reply : Reply) (r : Outcome) (o o′ : List ℕ) : Type 0 where

@@ -1,8 +1,8 @@
 -- Proxy, from its parts to protocol's step. Assumes nothing.
-use mathlib.Core.Path.{_≡_, refl, sym, ap, _∙_}
-use mathlib.Core.Bool.{Bool, true, false, _&&_, _||_}
-use mathlib.Core.List.{List, [], _∷_}
-use Prim.Native.Nat.{ℕ, zero, suc, _+_, _*_, _≤_, _<_}
+use mathlib.Core.Path.{_≡_, refl, sym, _∙_}
+use mathlib.Core.Bool.{Bool, true, false, _||_}
+use mathlib.Core.List.{List}
+use Prim.Native.Nat.{ℕ, zero, suc, _≤_}
 use native.Mathlib.Omega.{arith}
 use lib.Dec.{eqb}
 use lib.ListN.{length, take, replicate}
@@ -16,12 +16,14 @@ use Rattle.protocol.specs.Request.{malformed, proxyNames, fromQuery, valueOf, d
 use Rattle.protocol.specs.Written.{Wrote}
 use Rattle.protocol.specs.Answers.{ProxyFailure, InvalidRequest, BadPgt, UnauthorizedService, InternalError}
 use Rattle.protocol.specs.Steps.{Brought, step, slotNamed, roomFor, newRec, proxyWith, proxyBy, proxy}
-use Rattle.protocol.specs.Held.{Fine, Lawful, In, Said, Done}
+use Rattle.protocol.specs.Held.{Fine, Lawful, In, Said, Done, Lent}
 use Rattle.protocol.specs.declared.Outcome.{Outcome}
 use Rattle.protocol.proofs.Held.{sound-held, slot-in}
-use Rattle.protocol.proofs.Told.{only-said, done-as}
+use Rattle.protocol.proofs.Told.{only-said}
 use Rattle.protocol.proofs.Kept.{SessionView, unnamed, named, session-view, recs3, right-slot}
 use Rattle.protocol.proofs.StepSound.{slot-live, slot-within}
+use Rattle.protocol.specs.Calls.{bringing}
+use Rattle.offer.proofs.Laws.{none-given, some-given}
 use Rattle.find.specs.Searches.{foundAt}
 use Rattle.find.specs.declared.Found.{Found}
 use Rattle.find.specs.declared.Found.the-variants.{At, Nothing}
@@ -31,7 +33,7 @@ use Rattle.request.specs.declared.ProxyQuery.{ProxyQuery}
 use Rattle.request.specs.declared.ProxyQuery.the-variants as proxy-query
 use Rattle.request.proofs.Values.{proxy-told, proxy-pgt, proxy-target, read-front}
 use Rattle.offer.specs.Offers.{Offer}
-use Rattle.proxy.specs.Asking.{Given, asking, Live, proxyFor}
+use Rattle.proxy.specs.Asking.{Live, proxyFor}
 
 -- a live grant's slot, and its session's
 session-slot : (b : List ℕ) (s : ℕ) → recAt s (decodeTable b .slots) .kind ≡ 2 → In s b
@@ -55,7 +57,7 @@ grant-live b pgt k l e a =
     under h (named x y z w) = y
 
 -- what the ticket's issue asks for
-pub offered : (b register random o target : List ℕ) → Given b register random o → length target ≤ 200 → Offer b target random o
+pub offered : (b register random o target : List ℕ) → Lent b register random o → length target ≤ 200 → Offer b target random o
 offered b register random o target g h = record { fine = g .lawful .fine; short = h; drawn = g .drawn; out = g .room }
 
 pub room-known : (t : Table) {x : Bool} → x ≡ roomFor 1 t → x ≡ true → roomFor 1 t ≡ true
@@ -68,7 +70,7 @@ module _ (b o o′ target random register : List ℕ) (k : ℕ) {r : Outcome} wh
   -- under a grant: a ticket, no room, or no such service
   pub ticketed : {b′ : List ℕ} {x y : Bool} → Live k b → x ≡ registered target (decodeRegister register) → x ≡ true → y ≡ roomFor 1 (decodeTable b) → y ≡ true
       → Done (proxyWith (newRec aProxy 0 k (recAt k (decodeTable b .slots) .session) 0 target random (decodeTable b)) (decodeTable b)) r b′ o o′
-      → Done (proxyBy k target (asking register random) (decodeTable b)) r b′ o o′
+      → Done (proxyBy k target (bringing register random) (decodeTable b)) r b′ o o′
   unfolding proxyBy
   ticketed l e p f q d =
       let w : registered target (decodeRegister register) ≡ true = sym e ∙ p in
@@ -76,7 +78,7 @@ module _ (b o o′ target random register : List ℕ) (k : ℕ) {r : Outcome} wh
       rw (some-slot b k l, w, v) d
 
   pub full : {x y : Bool} → Live k b → Fine b → x ≡ registered target (decodeRegister register) → x ≡ true → y ≡ roomFor 1 (decodeTable b) → y ≡ false
-      → Said (ProxyFailure InternalError) r o o′ → Done (proxyBy k target (asking register random) (decodeTable b)) r b o o′
+      → Said (ProxyFailure InternalError) r o o′ → Done (proxyBy k target (bringing register random) (decodeTable b)) r b o o′
   unfolding proxyBy
   full l g e p f q s =
       let w : registered target (decodeRegister register) ≡ true = sym e ∙ p in
@@ -84,7 +86,7 @@ module _ (b o o′ target random register : List ℕ) (k : ℕ) {r : Outcome} wh
       rw (some-slot b k l, w, v) (only-said g s)
 
   pub unregistered : {x : Bool} → Live k b → Fine b → x ≡ registered target (decodeRegister register) → x ≡ false
-      → Said (ProxyFailure UnauthorizedService) r o o′ → Done (proxyBy k target (asking register random) (decodeTable b)) r b o o′
+      → Said (ProxyFailure UnauthorizedService) r o o′ → Done (proxyBy k target (bringing register random) (decodeTable b)) r b o o′
   unfolding proxyBy
   unregistered l g e p s = let w : registered target (decodeRegister register) ≡ false = sym e ∙ p in rw (some-slot b k l, w) (only-said g s)
 
@@ -99,14 +101,6 @@ module _ (b o o′ pgt target : List ℕ) (g : Brought) {r : Outcome} {f : Found
   no-grant a h s = rw (eq-eqb (slotNamed aGrant pgt (decodeTable b)) 0 (found-none (slotNamed aGrant pgt (decodeTable b)) e a)) (only-said h s)
 
 -- the request
-none-empty : (s : List ℕ) → length s ≡ 0 → isEmpty s ≡ true
-none-empty [] h = refl
-none-empty (x ∷ s) h = absurd (omega arith)
-
-some-given : (s : List ℕ) → (length s ≡ 0 → ⊥) → isEmpty s ≡ false
-some-given [] h = absurd (h refl)
-some-given (x ∷ s) h = refl
-
 or-true : (a : Bool) → a || true ≡ true
 or-true true = refl
 or-true false = refl
@@ -130,13 +124,13 @@ module _ (q : List ℕ) {x : ProxyQuery} (e : x ≡ proxyQueryOf q) where
       unfolding proxy
       absent-pgt z f s =
           let w = proxy-told q p t x e m in
-          rw (w .fine, none-empty (fromQuery "pgt" q) (sym (w .pgt) ∙ z)) (only-said f s)
+          rw (w .fine, none-given (fromQuery "pgt" q) (sym (w .pgt) ∙ z)) (only-said f s)
 
       pub absent-target : t ≡ 0 → Fine b → Said (ProxyFailure InvalidRequest) r o o′ → Done (proxy q g (decodeTable b)) r b o o′
       unfolding proxy
       absent-target z f s =
           let w = proxy-told q p t x e m in
-          rw (w .fine, none-empty (fromQuery "targetService" q) (sym (w .target) ∙ z), or-true (isEmpty (fromQuery "pgt" q))) (only-said f s)
+          rw (w .fine, none-given (fromQuery "targetService" q) (sym (w .target) ∙ z), or-true (isEmpty (fromQuery "pgt" q))) (only-said f s)
 
       pub answered : {b′ : List ℕ} → (p ≡ 0 → ⊥) → (t ≡ 0 → ⊥) → Done (proxyFor (fromQuery "pgt" q) (fromQuery "targetService" q) g (decodeTable b)) r b′ o o′ → Done (proxy q g (decodeTable b)) r b′ o o′
       unfolding proxy proxyFor

@@ -8,13 +8,13 @@ ghost use mathlib.Core.Bool.{false};
 ghost use Prim.Native.Nat.{_≤_};
 ghost use lib.ListN.{length};
 ghost use Rattle.protocol.specs.Bytes.{ascii};
-ghost use Rattle.protocol.specs.Tickets.{aGrant};
-ghost use Rattle.protocol.specs.Table.{decodeTable, recAt};
+ghost use Rattle.protocol.specs.Table.{decodeTable};
 ghost use Rattle.protocol.specs.Request.{malformed, proxyNames, fromQuery};
-ghost use Rattle.protocol.specs.Steps.{slotNamed, proxyBy, proxy};
-ghost use Rattle.protocol.specs.Held.{In, Done};
+ghost use Rattle.protocol.specs.Steps.{proxyBy, proxy};
+ghost use Rattle.protocol.specs.Held.{Done, Lent};
+ghost use Rattle.protocol.specs.Calls.{bringing};
 ghost use Rattle.request.specs.Requests.{Ready};
-ghost use Rattle.proxy.specs.Asking.{Given, asking, proxyFor, Live};
+ghost use Rattle.proxy.specs.Asking.{proxyFor, Live};
 
 // Under the live grant in slot k.
 fn under(
@@ -25,8 +25,8 @@ fn under(
     random: &[u8],
     out: &mut [u8],
 ) -> Outcome
-    requires { ⌜ (Given (now table) (now register) (now random) (now out)) × (Live k (now table)) × (length (now target) ≤ 200) ⌝ }
-    ensures { λ r. ⌜ Done (proxyBy k (now (target .entry)) (asking (now (register .entry)) (now (random .entry))) (decodeTable (now (table .entry)))) r (now (table .exit)) (now (out .entry)) (now (out .exit)) ⌝ }
+    requires { ⌜ (Lent (now table) (now register) (now random) (now out)) × (Live k (now table)) × (length (now target) ≤ 200) ⌝ }
+    ensures { λ r. ⌜ Done (proxyBy k (now (target .entry)) (bringing (now (register .entry)) (now (random .entry))) (decodeTable (now (table .entry)))) r (now (table .exit)) (now (out .entry)) (now (out .exit)) ⌝ }
 {
     if register::registered(register, target) {
         if find::has_room(table, 1) {
@@ -45,8 +45,8 @@ fn by_grant(
     random: &[u8],
     out: &mut [u8],
 ) -> Outcome
-    requires { ⌜ (Given (now table) (now register) (now random) (now out)) × (length (now target) ≤ 200) ⌝ }
-    ensures { λ r. ⌜ Done (proxyFor (now (pgt .entry)) (now (target .entry)) (asking (now (register .entry)) (now (random .entry))) (decodeTable (now (table .entry)))) r (now (table .exit)) (now (out .entry)) (now (out .exit)) ⌝ }
+    requires { ⌜ (Lent (now table) (now register) (now random) (now out)) × (length (now target) ≤ 200) ⌝ }
+    ensures { λ r. ⌜ Done (proxyFor (now (pgt .entry)) (now (target .entry)) (bringing (now (register .entry)) (now (random .entry))) (decodeTable (now (table .entry)))) r (now (table .exit)) (now (out .entry)) (now (out .exit)) ⌝ }
 {
     match find::find_named(table, ticket::Grant::KIND, pgt) {
         Found::At(k) => under(table, k, register, target, random, out),
@@ -64,8 +64,8 @@ fn ask(
     target: &mut [u8],
     out: &mut [u8],
 ) -> Outcome
-    requires { ⌜ (Given (now table) (now register) (now random) (now out)) × (Ready false (ascii "pgt") (now q) (now pgt)) × (Ready false (ascii "targetService") (now q) (now target)) × (length (fromQuery "targetService" (now q)) ≤ 200) ⌝ }
-    ensures { λ r. ⌜ Done (proxyFor (fromQuery "pgt" (now (q .entry))) (fromQuery "targetService" (now (q .entry))) (asking (now (register .entry)) (now (random .entry))) (decodeTable (now (table .entry)))) r (now (table .exit)) (now (out .entry)) (now (out .exit)) ⌝ }
+    requires { ⌜ (Lent (now table) (now register) (now random) (now out)) × (Ready false (ascii "pgt") (now q) (now pgt)) × (Ready false (ascii "targetService") (now q) (now target)) × (length (fromQuery "targetService" (now q)) ≤ 200) ⌝ }
+    ensures { λ r. ⌜ Done (proxyFor (fromQuery "pgt" (now (q .entry))) (fromQuery "targetService" (now (q .entry))) (bringing (now (register .entry)) (now (random .entry))) (decodeTable (now (table .entry)))) r (now (table .exit)) (now (out .entry)) (now (out .exit)) ⌝ }
 {
     let p = request::read_query(q, b"pgt", pgt);
     let t = request::read_query(q, b"targetService", target);
@@ -73,8 +73,8 @@ fn ask(
 }
 
 fn ask_in(table: &mut [u8], register: &[u8], q: &[u8], random: &[u8], out: &mut [u8]) -> Outcome
-    requires { ⌜ (Given (now table) (now register) (now random) (now out)) × (malformed false proxyNames (now q) ≡ false) ⌝ }
-    ensures { λ r. ⌜ Done (proxyFor (fromQuery "pgt" (now (q .entry))) (fromQuery "targetService" (now (q .entry))) (asking (now (register .entry)) (now (random .entry))) (decodeTable (now (table .entry)))) r (now (table .exit)) (now (out .entry)) (now (out .exit)) ⌝ }
+    requires { ⌜ (Lent (now table) (now register) (now random) (now out)) × (malformed false proxyNames (now q) ≡ false) ⌝ }
+    ensures { λ r. ⌜ Done (proxyFor (fromQuery "pgt" (now (q .entry))) (fromQuery "targetService" (now (q .entry))) (bringing (now (register .entry)) (now (random .entry))) (decodeTable (now (table .entry)))) r (now (table .exit)) (now (out .entry)) (now (out .exit)) ⌝ }
 {
     let mut pgt = [0u8; 64];
     let mut target = [0u8; 200];
@@ -82,8 +82,8 @@ fn ask_in(table: &mut [u8], register: &[u8], q: &[u8], random: &[u8], out: &mut 
 }
 
 pub fn proxy(table: &mut [u8], register: &[u8], q: &[u8], random: &[u8], out: &mut [u8]) -> Outcome
-    requires { ⌜ Given (now table) (now register) (now random) (now out) ⌝ }
-    ensures { λ r. ⌜ Done (proxy (now (q .entry)) (asking (now (register .entry)) (now (random .entry))) (decodeTable (now (table .entry)))) r (now (table .exit)) (now (out .entry)) (now (out .exit)) ⌝ }
+    requires { ⌜ Lent (now table) (now register) (now random) (now out) ⌝ }
+    ensures { λ r. ⌜ Done (proxy (now (q .entry)) (bringing (now (register .entry)) (now (random .entry))) (decodeTable (now (table .entry)))) r (now (table .exit)) (now (out .entry)) (now (out .exit)) ⌝ }
 {
     match request::proxy_query(q) {
         ProxyQuery::Malformed => reply::say_proxy_failure(out, Code::InvalidRequest),

@@ -4,22 +4,18 @@ use mathlib.Core.Bool.{Bool, true, false}
 use mathlib.Core.List.{List, [], _∷_}
 use Prim.Native.Nat.{ℕ, zero, suc, _+_, _-_, _≤_, _<_}
 use native.Mathlib.Nat.{sub-zero, zero-sub, suc-sub-suc}
-use native.Mathlib.Numerals.{add-one}
 use native.Mathlib.Omega.{arith}
 use borrow.Author.Tests.{eq-eqb, ne-eqb, eqb-true, lt-ltb, le-ltb, ltb-true, ltb-false}
 use lib.Dec.{eqb, ltb}
 use lib.ListN.{length, take, drop, getD, length-drop, drop-of-length-le}
-use lib.Seq.{drop-cons, take-all, take-nil, drop-drop, take-take}
+use lib.Seq.{take-all, take-nil, drop-drop, take-take}
 use Rattle.protocol.specs.Bytes.{if, upTo, past, cutAt}
 use Rattle.protocol.specs.Request.{kept, pieces, nameIn, valueIn}
 use Rattle.protocol.proofs.Pieces.{pieces-step, pieces-none, take-upTo, past-drop}
+use Rattle.protocol.proofs.Laws.{drop-step}
 use Rattle.reader.specs.Step.{FirstAt, leading, pieceAt, stepTo, stepAt}
 use Rattle.reader.specs.declared.Step.{Step}
 use Rattle.reader.specs.declared.Step.the-variants.{Piece, End}
-
--- one step of a walk along a text
-pub drop-step : (s : List ℕ) (i : ℕ) → i < length s → drop i s ≡ getD s i 0 ∷ drop (i + 1) s
-drop-step s i h = rw (add-one, drop-cons s i 0)
 
 pub drop-end : (s : List ℕ) (i : ℕ) → length s ≤ i → drop i s ≡ []
 drop-end s i h = drop-of-length-le s h

@@ -12,8 +12,7 @@ use lib.Seq.{drop-drop, take-all, length-take-le}
 use Rattle.protocol.specs.Bytes.{if, ascii, same, among, allDiffer, within, allWithin, holds, part, num, leOf, blocks}
 use Rattle.protocol.specs.Blocks.{checkRight}
 use Rattle.protocol.specs.Register.{Entry, decodeEntry, decodeRegister, addressRight, servicesOf, registered, callbackOf}
-use Rattle.protocol.proofs.Laws.{both}
-use Rattle.text.proofs.Splice.{drop-step}
+use Rattle.protocol.proofs.Laws.{both, drop-step}
 use Rattle.text.proofs.Laws.{lengths-differ}
 use Rattle.block.proofs.Parts.{part-part}
 use Rattle.register.specs.Blockwise.{Sizes, secure, textsRight, blockRight, blocksRight, entries}

@@ -6,18 +6,16 @@ use mathlib.Core.List.{List, [], _∷_, _++_, map}
 use Prim.Native.Nat.{ℕ, zero, suc, _+_, _-_, _*_, _/_, _%_, _≤_, _<_, min}
 use native.Mathlib.Omega.{arith}
 use native.Mathlib.Decide.{decLt}
-use borrow.Author.Tests.{eq-eqb, eqb-true, le-leb, leb-true}
+use borrow.Author.Tests.{eqb-true, le-leb, leb-true}
 use lib.Dec.{eqb, leb, lit<}
 use lib.ListN.{length, take, drop, getD, length-append, length-take, length-drop, take-append-drop, List·getD-eq-default}
-use lib.Seq.{drop-drop, take-all, getD-take, getD-drop, length-take-le}
+use lib.Seq.{drop-drop, getD-take, getD-drop, length-take-le}
 use Rattle.protocol.specs.Bytes.{if, same, allDiffer, within, allWithin, padTo, part, num, bytesOf, joined}
 use Rattle.protocol.specs.Blocks.{houseCheck, sealed, checkRight}
 use Rattle.protocol.specs.Register.{Entry, entryBody, encodeEntry, decodeEntry, decodeRegister, addressRight, entryRight, allEntriesRight, servicesOf, registerShape, registerLawful}
-use Rattle.protocol.proofs.Laws.{both, same-eq, same-append, length-bytes, length-pad}
-use Rattle.protocol.proofs.Notice.{house-below}
+use Rattle.protocol.proofs.Laws.{both, same-append, length-bytes, length-pad, part-long}
 use Rattle.protocol.proofs.Panels.{Short, length-entry}
-use Rattle.rules.proofs.Bytewise.{one-test, length-part, front-test, field-own, field-test, text-own}
-use Rattle.rules.proofs.Laws.{Bytes}
+use Rattle.block.proofs.Bytewise.{one-test, front-test, field-own, text-own, sealed-test, Bytes}
 use Rattle.register.specs.Blockwise.{Sizes, secure, textsRight, blockRight, blocksRight, entries}
 use Rattle.register.proofs.Laws.{limit-service, limit-callback, service-number, callback-number, register-entries}
 
@@ -25,10 +23,6 @@ use Rattle.register.proofs.Laws.{limit-service, limit-callback, service
 and-none : (a : Bool) → a && false ≡ false
 and-none true = refl
 and-none false = refl
-
-under : (a x y : Bool) → (a ≡ true → x ≡ y) → a && x ≡ a && y
-under true x y f = f refl
-under false x y f = refl
 
 -- the first two that the meaning has are the last of the code
 in-order : (c a z b y s : Bool) → z && y && c && (a && b && s) ≡ c && a && z && b && y && s
@@ -38,21 +32,6 @@ in-order true true false b y s = refl
 in-order true true true false y s = and-none (y && true)
 in-order true true true true false s = refl
 in-order true true true true true s = refl
-
--- a block is a sealed one where its 508 bytes are right, and its check
-sealed-test : (b body : List ℕ) → length b ≡ 512 → ((i : ℕ) → getD b i 0 < 256) → length body ≡ 508 → same (take 508 b) body && checkRight b ≡ same b (sealed body)
-unfolding sealed checkRight
-sealed-test b body h y l =
-    let f : same (part 508 4 b) (bytesOf 4 (houseCheck body)) ≡ eqb (num 508 4 b) (houseCheck body) = field-test b y 508 4 (houseCheck body) (omega arith) (house-below body) in
-    let s : same (part 0 512 b) (body ++ bytesOf 4 (houseCheck body)) ≡ same (part 0 508 b) body && eqb (num 508 4 b) (houseCheck body) =
-    front-test b body (bytesOf 4 (houseCheck body)) 0 508 4 l (omega arith) refl f in
-    let w : part 0 512 b ≡ b = take-all 512 b (omega arith) in
-    under (same (take 508 b) body) (eqb (houseCheck (take 508 b)) (num 508 4 b)) (eqb (num 508 4 b) (houseCheck body))
-    (λ e. ap (λ (x : List ℕ). eqb (houseCheck x) (num 508 4 b)) (same-eq (take 508 b) body e) ∙ turned (houseCheck body) (num 508 4 b))
-    ∙ sym (rw w at s)
-  where
-    turned : (m n : ℕ) → eqb m n ≡ eqb n m
-    turned m n = one-test (eqb m n) (eqb n m) (λ e. eq-eqb n m (sym (eqb-true m n e))) (λ e. eq-eqb m n (sym (eqb-true n m e)))
 
 -- one block
 module _ (b : List ℕ) (h : length b ≡ 512) (y : (i : ℕ) → getD b i 0 < 256) where
@@ -82,10 +61,10 @@ module _ (b : List ℕ) (h : length b ≡ 512) (y : (i : ℕ) → getD b i 0 < 2
   -- within the limits the 508 bytes are the entry's where the rest is zero
   module _ (hn : n ≤ 200) (hm : m ≤ 200) where
     ln : length (part 4 n b) ≡ n
-    ln = length-part b 4 n (omega arith)
+    ln = part-long 4 n b (omega arith)
 
     lm : length (part 204 m b) ≡ m
-    lm = length-part b 204 m (omega arith)
+    lm = part-long 204 m b (omega arith)
 
     body-test : same (take 508 b) (entryBody e) ≡ allWithin 0 0 (part (4 + n) (200 - n) b) && allWithin 0 0 (part (204 + m) (304 - m) b)
     unfolding entryBody decodeEntry

@@ -7,7 +7,7 @@ use lib.Dec.{eqb}
 use borrow.Author.Tests.{eq-eqb, ne-eqb}
 use lib.ListN.{length, drop, getD, drop-of-length-le}
 use Rattle.protocol.specs.Bytes.{if, holds}
-use Rattle.text.proofs.Splice.{drop-step}
+use Rattle.protocol.proofs.Laws.{drop-step}
 
 module _ (s : List ℕ) (i : ℕ) (l : holds 63 (drop i s) ≡ holds 63 s) where
   holds-step : i < length s → holds 63 s ≡ if (eqb (getD s i 0) 63) true (holds 63 (drop (i + 1) s))

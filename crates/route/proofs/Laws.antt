@@ -7,7 +7,7 @@ use Rattle.protocol.specs.Table.{decodeTable}
 use Rattle.protocol.specs.Request.{pathNamed, pathPart, queryPart}
 use Rattle.protocol.specs.Answers.{ErrorPage}
 use Rattle.protocol.specs.Steps.{loginGet, loginPost, logout, validate, proxy, getStep, postStep, requestStep}
-use Rattle.protocol.specs.Held.{Said, Done, Did}
+use Rattle.protocol.specs.Held.{Said, Done, Did, Lent}
 use Rattle.protocol.specs.declared.Method.{Method}
 use Rattle.protocol.specs.declared.Method.the-variants as method
 use Rattle.protocol.specs.declared.Outcome.{Outcome}
@@ -15,13 +15,10 @@ use Rattle.protocol.specs.declared.Path.{Path}
 use Rattle.protocol.specs.declared.Path.the-variants as path
 use Rattle.protocol.specs.declared.Validator.{Validator}
 use Rattle.protocol.proofs.Told.{only-said, done-as, done-did}
-use Rattle.offer.specs.Offers.{Supplied, broughtBy}
+use Rattle.protocol.specs.Calls.{broughtBy, bringing}
+use Rattle.offer.specs.Offers.{Supplied}
 use Rattle.logout.specs.Leaving.{leaving, Given as Leaving}
-use Rattle.proxy.specs.Asking.{asking, Given as Asking}
-use Rattle.spend.specs.Spends.{bringing}
-use Rattle.validate.specs.Asked.{Ready}
 use Rattle.validate.proofs.Laws.{unread}
-use Rattle.route.specs.Lent.{Lent}
 use Rattle.route.proofs.Unread.{logout-reads, proxy-reads, get-reads}
 
 -- what each step is lent
@@ -31,12 +28,6 @@ module _ (b g d o : List ℕ) (l : Lent b g d o) where
 
   pub lent-logout : Leaving b g o
   lent-logout = record { fine = l .lawful .fine; panels = l .panels; room = l .room }
-
-  pub lent-validate : Ready b g d o
-  lent-validate = record { lawful = l .lawful; register = l .panels; drawn = l .drawn; room = l .room }
-
-  pub lent-proxy : Asking b g d o
-  lent-proxy = record { lawful = l .lawful; panels = l .panels; drawn = l .drawn; room = l .room }
 
 -- GET
 module _ (p : Path) (q g k d b : List ℕ) {r : Outcome} {b′ o o′ : List ℕ} where
@@ -49,7 +40,7 @@ module _ (p : Path) (q g k d b : List ℕ) {r : Outcome} {b′ o o′ : List ℕ
   pub get-validate : (w : Validator) → p ≡ path.Validate w → Done (validate w q (bringing g d) (decodeTable b)) r b′ o o′ → Done (getStep p q (broughtBy g k d false) (decodeTable b)) r b′ o o′
   get-validate w e x = rw e (done-as (unread w q g k d false (decodeTable b)) x)
 
-  pub get-proxy : p ≡ path.Proxy → Done (proxy q (asking g d) (decodeTable b)) r b′ o o′ → Done (getStep p q (broughtBy g k d false) (decodeTable b)) r b′ o o′
+  pub get-proxy : p ≡ path.Proxy → Done (proxy q (bringing g d) (decodeTable b)) r b′ o o′ → Done (getStep p q (broughtBy g k d false) (decodeTable b)) r b′ o o′
   get-proxy e x = rw e (done-as (proxy-reads q g k d false (decodeTable b)) x)
 
 pub get-unknown : (p : Path) (q g k d b o : List ℕ) {r : Outcome} {o′ : List ℕ} → p ≡ path.Unknown → Lent b g d o → Said (ErrorPage 404) r o o′

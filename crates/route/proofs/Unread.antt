@@ -7,9 +7,8 @@ use Rattle.protocol.specs.Table.{Table}
 use Rattle.protocol.specs.Steps.{loginGet, loginPage, logout, proxy, proxyBy, getStep}
 use Rattle.protocol.specs.declared.Path.{Path}
 use Rattle.protocol.specs.declared.Path.the-variants as path
-use Rattle.offer.specs.Offers.{broughtBy}
+use Rattle.protocol.specs.Calls.{broughtBy}
 use Rattle.logout.specs.Leaving.{leaving}
-use Rattle.proxy.specs.Asking.{asking}
 use Rattle.validate.proofs.Laws.{unread}
 
 module _ (q g k d : List ℕ) (v : Bool) (t : Table) where
@@ -24,7 +23,7 @@ module _ (q g k d : List ℕ) (v : Bool) (t : Table) where
   logout-reads = refl
 
   -- proxy: no cookie, no verdict
-  pub proxy-reads : proxy q (asking g d) t ≡ proxy q (broughtBy g k d v) t
+  pub proxy-reads : proxy q (bringing g d) t ≡ proxy q (broughtBy g k d v) t
   unfolding proxy proxyBy
   proxy-reads = refl
 

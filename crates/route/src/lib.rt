@@ -2,16 +2,14 @@
 use protocol::Method;
 use protocol::Outcome;
 use protocol::Path;
-ghost use mathlib.Core.Path.{_≡_};
 ghost use mathlib.Core.Bool.{false};
 ghost use Prim.Native.Nat.{_≤_};
 ghost use lib.ListN.{length};
 ghost use Rattle.protocol.specs.Table.{decodeTable};
 ghost use Rattle.protocol.specs.Request.{pathNamed, pathPart, queryPart};
 ghost use Rattle.protocol.specs.Steps.{getStep, postStep, requestStep};
-ghost use Rattle.protocol.specs.Held.{Done, Did};
-ghost use Rattle.offer.specs.Offers.{broughtBy};
-ghost use Rattle.route.specs.Lent.{Lent};
+ghost use Rattle.protocol.specs.Held.{Done, Did, Lent};
+ghost use Rattle.protocol.specs.Calls.{broughtBy};
 
 // No such path, and no such method on it.
 const NOT_FOUND: u32 = 404;

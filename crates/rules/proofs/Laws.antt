@@ -2,7 +2,7 @@
 use mathlib.Core.Path.{_≡_, refl, sym, ap, _∙_}
 use mathlib.Core.Bool.{Bool, true, false, _&&_}
 use mathlib.Core.List.{List, [], _∷_}
-use Prim.Native.Nat.{ℕ, zero, suc, _+_, _-_, _<_, _≤_}
+use Prim.Native.Nat.{ℕ, zero, _+_, _-_, _<_, _≤_}
 use native.Mathlib.Omega.{arith}
 use native.Mathlib.Decide.{decLe}
 use borrow.Author.Tests.{le-leb, lt-leb, leb-true}
@@ -13,24 +13,11 @@ use Rattle.protocol.specs.Bytes.{if, ascii, same, within, allWithin, zeros, pad
 use Rattle.protocol.specs.Tickets.{aWaiting, lifetime, secretLength, markMost, depthLeast, depthMost, textLeast, textMost}
 use Rattle.protocol.specs.Records.{decodeRec, recBody, fieldsRight, serialRight, expiryRight, ownRight, textRight as recTextRight}
 use Rattle.protocol.specs.Table.{headBody, lastTime}
-use Rattle.protocol.proofs.Laws.{both, length-bytes, length-pad, text-most}
+use Rattle.protocol.proofs.Laws.{both, length-bytes, length-pad, text-most, part-long}
+use Rattle.protocol.proofs.Sizes.{secret-most}
 use Rattle.rules.specs.declared.Numbers.{Numbers}
 use Rattle.rules.specs.Tests.{numbersOf, limitsRight, lifeRight, secretsRight, textRight, gapsZero}
-use Rattle.rules.proofs.Bytewise.{one-test, length-part, front-test, same-zeros, field-own, field-test, two-own, one-and-zero, full-own, text-own}
-
-pub secret-most : (k : ℕ) → secretLength k ≤ 16
-secret-most zero = lit≤ tt
-secret-most (suc zero) = lit≤ tt
-secret-most (suc (suc zero)) = lit≤ tt
-secret-most (suc (suc (suc zero))) = lit≤ tt
-secret-most (suc (suc (suc (suc zero)))) = lit≤ tt
-secret-most (suc (suc (suc (suc (suc zero))))) = lit≤ tt
-secret-most (suc (suc (suc (suc (suc (suc zero)))))) = lit≤ tt
-secret-most (suc (suc (suc (suc (suc (suc (suc k))))))) = lit≤ tt
-
--- what a lent slice holds
-pub record Bytes (b : List ℕ) : Type 0 where
-  pub each : (i : ℕ) → getD b i 0 < 256
+use Rattle.block.proofs.Bytewise.{Bytes, one-test, front-test, same-zeros, field-own, field-test, two-own, one-and-zero, full-own, text-own}
 
 -- A record's bytes
 
@@ -39,7 +26,7 @@ drop-part : (b : List ℕ) (at n i : ℕ) → i ≤ n → at + n ≤ length b �
 drop-part b at n i h g =
     let e : n ≡ i + (n - i) = omega arith in
     ap (λ (m : ℕ). drop i (part at m b)) e ∙ (ap (drop i) (take-add i (n - i) (drop at b))
-    ∙ (drop-at (part at i b) (take (n - i) (drop i (drop at b))) i (length-part b at i (omega arith)) ∙ rw (drop-drop i at b)))
+    ∙ (drop-at (part at i b) (take (n - i) (drop i (drop at b))) i (part-long at i b (omega arith)) ∙ rw (drop-drop i at b)))
 
 and-false : (a : Bool) → a && false ≡ false
 and-false true = refl
@@ -50,7 +37,7 @@ text-length : (b : List ℕ) (k n : ℕ) → length b ≡ 512 → within (textLe
 text-length b k n h = by-length (decLe n 200)
   where
     by-length : Dec (n ≤ 200) → within (textLeast k) (textMost k) (length (part 44 n b)) ≡ within (textLeast k) (textMost k) n
-    by-length (yes p) = rw (length-part b 44 n (omega arith))
+    by-length (yes p) = rw (part-long 44 n b (omega arith))
     by-length (no p) =
         let l : 200 < length (part 44 n b) = rw (length-take n (drop 44 b), length-drop 44 b) (omega arith) in
         let x : leb (length (part 44 n b)) (textMost k) ≡ false = lt-leb (length (part 44 n b)) (textMost k) (omega (arith, text-most k)) in
@@ -88,24 +75,24 @@ module _ (b : List ℕ) (h : length b ≡ 512) (y : (i : ℕ) → getD b i 0 < 2
       ≡ allWithin 0 0 (part 7 1 b) && (allWithin 0 0 (part 12 4 b) && (allWithin 0 0 (part 42 2 b) && (allWithin 0 0 (part (44 + num 40 2 b) (212 - num 40 2 b) b) && allWithin 0 0 (part 272 236 b))))
   unfolding recBody decodeRec
   body-own short =
-      let l : length (part 44 (num 40 2 b) b) ≡ num 40 2 b = length-part b 44 (num 40 2 b) (omega arith) in
+      let l : length (part 44 (num 40 2 b) b) ≡ num 40 2 b = part-long 44 (num 40 2 b) b (omega arith) in
       let size : same (part 40 2 b) (bytesOf 2 (length (part 44 (num 40 2 b) b))) ≡ true = rw l (field-own b y 40 2 (fits 42 (lit≤ tt))) in
       front-test b (getD b 0 0 ∷ getD b 1 0 ∷ []) _ 0 2 506 refl (fits 2 (lit≤ tt)) (two-own b 0 (fits 2 (lit≤ tt)))
       (front-test b (bytesOf 2 (num 2 2 b)) _ 2 2 504 (length-bytes 2 (num 2 2 b)) (fits 4 (lit≤ tt)) (field-own b y 2 2 (fits 4 (lit≤ tt)))
       (front-test b (bytesOf 2 (num 4 2 b)) _ 4 2 502 (length-bytes 2 (num 4 2 b)) (fits 6 (lit≤ tt)) (field-own b y 4 2 (fits 6 (lit≤ tt)))
       (front-test b (getD b 6 0 ∷ 0 ∷ []) _ 6 2 500 refl (fits 8 (lit≤ tt)) (one-and-zero b 6 (fits 8 (lit≤ tt)))
       (front-test b (bytesOf 4 (num 8 4 b)) _ 8 4 496 (length-bytes 4 (num 8 4 b)) (fits 12 (lit≤ tt)) (field-own b y 8 4 (fits 12 (lit≤ tt)))
-      (front-test b (zeros 4) _ 12 4 492 refl (fits 16 (lit≤ tt)) (same-zeros (part 12 4 b) 4 (length-part b 12 4 (fits 16 (lit≤ tt))))
+      (front-test b (zeros 4) _ 12 4 492 refl (fits 16 (lit≤ tt)) (same-zeros (part 12 4 b) 4 (part-long 12 4 b (fits 16 (lit≤ tt))))
       (front-test b (bytesOf 8 (num 16 8 b)) _ 16 8 484 (length-bytes 8 (num 16 8 b)) (fits 24 (lit≤ tt)) (field-own b y 16 8 (fits 24 (lit≤ tt)))
-      (front-test b (padTo 16 (part 24 16 b)) _ 24 16 468 (padded 24 16 (lit≤ tt)) (fits 40 (lit≤ tt)) (full-own (part 24 16 b) 16 (length-part b 24 16 (fits 40 (lit≤ tt))))
+      (front-test b (padTo 16 (part 24 16 b)) _ 24 16 468 (padded 24 16 (lit≤ tt)) (fits 40 (lit≤ tt)) (full-own (part 24 16 b) 16 (part-long 24 16 b (fits 40 (lit≤ tt))))
       (front-test b (bytesOf 2 (length (part 44 (num 40 2 b) b))) _ 40 2 466 (length-bytes 2 (length (part 44 (num 40 2 b) b))) (fits 42 (lit≤ tt)) size
-      (front-test b (zeros 2) _ 42 2 464 refl (fits 44 (lit≤ tt)) (same-zeros (part 42 2 b) 2 (length-part b 42 2 (fits 44 (lit≤ tt))))
+      (front-test b (zeros 2) _ 42 2 464 refl (fits 44 (lit≤ tt)) (same-zeros (part 42 2 b) 2 (part-long 42 2 b (fits 44 (lit≤ tt))))
       (front-test b (padTo 212 (part 44 (num 40 2 b) b)) _ 44 212 252 (length-pad 212 (part 44 (num 40 2 b) b) (omega arith)) (fits 256 (lit≤ tt)) (text-own b 44 (num 40 2 b) 212 (omega arith) (fits 256 (lit≤ tt)))
-      (front-test b (padTo 16 (part 256 16 b)) _ 256 16 236 (padded 256 16 (lit≤ tt)) (fits 272 (lit≤ tt)) (full-own (part 256 16 b) 16 (length-part b 256 16 (fits 272 (lit≤ tt))))
-      (same-zeros (part 272 236 b) 236 (length-part b 272 236 (fits 508 (lit≤ tt)))))))))))))))
+      (front-test b (padTo 16 (part 256 16 b)) _ 256 16 236 (padded 256 16 (lit≤ tt)) (fits 272 (lit≤ tt)) (full-own (part 256 16 b) 16 (part-long 256 16 b (fits 272 (lit≤ tt))))
+      (same-zeros (part 272 236 b) 236 (part-long 272 236 b (fits 508 (lit≤ tt)))))))))))))))
     where
       padded : (at n : ℕ) → at + n ≤ 512 → length (padTo n (part at n b)) ≡ n
-      padded at n g = let l : length (part at n b) ≡ n = length-part b at n (omega arith) in length-pad n (part at n b) (omega arith)
+      padded at n g = let l : length (part at n b) ≡ n = part-long at n b (omega arith) in length-pad n (part at n b) (omega arith)
 
   -- the first 508 bytes are those of a header of so many records
   head-own : (count : ℕ) → count < 65536
@@ -115,10 +102,10 @@ module _ (b : List ℕ) (h : length b ≡ 512) (y : (i : ℕ) → getD b i 0 < 2
   head-own count g =
       front-test b (ascii "TKTS") _ 0 4 504 refl (fits 4 (lit≤ tt)) refl
       (front-test b (bytesOf 2 count) _ 4 2 502 (length-bytes 2 count) (fits 6 (lit≤ tt)) (field-test b y 4 2 count (fits 6 (lit≤ tt)) g)
-      (front-test b (zeros 2) _ 6 2 500 refl (fits 8 (lit≤ tt)) (same-zeros (part 6 2 b) 2 (length-part b 6 2 (fits 8 (lit≤ tt))))
+      (front-test b (zeros 2) _ 6 2 500 refl (fits 8 (lit≤ tt)) (same-zeros (part 6 2 b) 2 (part-long 6 2 b (fits 8 (lit≤ tt))))
       (front-test b (bytesOf 8 (num 8 8 b)) _ 8 8 492 (length-bytes 8 (num 8 8 b)) (fits 16 (lit≤ tt)) (field-own b y 8 8 (fits 16 (lit≤ tt)))
       (front-test b (bytesOf 4 (num 16 4 b)) _ 16 4 488 (length-bytes 4 (num 16 4 b)) (fits 20 (lit≤ tt)) (field-own b y 16 4 (fits 20 (lit≤ tt)))
-      (same-zeros (part 20 488 b) 488 (length-part b 20 488 (fits 508 (lit≤ tt))))))))
+      (same-zeros (part 20 488 b) 488 (part-long 20 488 b (fits 508 (lit≤ tt))))))))
 
 -- What the code knows at its returns
 

@@ -19,6 +19,7 @@ use Rattle.protocol.specs.declared.Outcome.{Outcome}
 use Rattle.protocol.proofs.StepSound.{body-values}
 use Rattle.protocol.proofs.Told.{only-said, did-as, done-did}
 use Rattle.protocol.proofs.Held.{holds-self}
+use Rattle.protocol.specs.Calls.{broughtBy}
 use Rattle.find.specs.declared.Found.{Found}
 use Rattle.find.specs.declared.Found.the-variants.{At, Nothing}
 use Rattle.find.specs.Searches.{foundAt}
@@ -27,7 +28,6 @@ use Rattle.request.specs.declared.LoginBody.{LoginBody}
 use Rattle.request.specs.declared.LoginBody.the-variants as login-body
 use Rattle.request.specs.Requests.{loginBodyOf}
 use Rattle.request.proofs.Values.{body-told, read-front}
-use Rattle.offer.specs.Offers.{broughtBy}
 use Rattle.signin.specs.Entries.{credentialsOf, entryOf, stepAt, Spent}
 use Rattle.signin.specs.declared.Entry.{Entry}
 use Rattle.signin.specs.declared.Entry.the-variants.{Unknown, Again, Accepted}

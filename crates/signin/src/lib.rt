@@ -13,7 +13,8 @@ ghost use Rattle.protocol.specs.Register.{registerLawful};
 ghost use Rattle.protocol.specs.Request.{bodyNames, malformed, fromBody};
 ghost use Rattle.protocol.specs.Steps.{remove, loginTicket, loginPost};
 ghost use Rattle.protocol.specs.Held.{Fine, Did};
-ghost use Rattle.offer.specs.Offers.{Supplied, broughtBy};
+ghost use Rattle.protocol.specs.Calls.{broughtBy};
+ghost use Rattle.offer.specs.Offers.{Supplied};
 ghost use Rattle.signin.specs.Entries.{entryOf, credentialsOf, Spent};
 
 // What becomes of credentials.

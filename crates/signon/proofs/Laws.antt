@@ -10,8 +10,8 @@ use lib.ListN.{length}
 use Rattle.protocol.specs.Table.{encodeTable, decodeTable, tableShape, tableLawful, lastTime, formatted}
 use Rattle.protocol.specs.Request.{pathNamed, pathPart, queryPart}
 use Rattle.protocol.specs.Steps.{tick, requestStep, finish}
-use Rattle.protocol.specs.Calls.{inputs, result, refusedOutcome, answerRefusal, stepOf, answerOf, numbered, formatRefusal, formatOf, finishRefusal, finishOf}
-use Rattle.protocol.specs.Held.{Holds, Lawful, Done, Did}
+use Rattle.protocol.specs.Calls.{inputs, result, refusedOutcome, answerRefusal, stepOf, answerOf, numbered, formatRefusal, formatOf, finishRefusal, finishOf, broughtBy}
+use Rattle.protocol.specs.Held.{Holds, Lawful, Done, Did, Lent}
 use Rattle.protocol.specs.declared.Method.{Method}
 use Rattle.protocol.specs.declared.Method.the-variants as method
 use Rattle.protocol.specs.declared.Outcome.{Outcome}
@@ -23,8 +23,6 @@ use Rattle.protocol.proofs.Lasting.{passes, Passed}
 use Rattle.protocol.proofs.Top.{top-passed}
 use Rattle.judge.proofs.Worth.{shaped, lawful-law}
 use Rattle.edit.specs.Edits.{Shape}
-use Rattle.offer.specs.Offers.{broughtBy}
-use Rattle.route.specs.Lent.{Lent}
 
 -- the clock keeps a lawful table lawful
 pub clock-lawful : (b : List ℕ) {b′ : List ℕ} (n : ℕ) → Lawful b → n ≤ lastTime → Holds b′ (tick n (decodeTable b)) → Lawful b′

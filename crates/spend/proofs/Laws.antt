@@ -22,6 +22,7 @@ use Rattle.protocol.proofs.Laws.{both, rules-hold}
 use Rattle.protocol.proofs.TicketSound.{Ticket, ticket-live, Base, ParentBase, none-above, grant-above, ticket-base, spent-sound}
 use Rattle.protocol.proofs.Held.{sound-held}
 use Rattle.protocol.proofs.Told.{said-done, only-said, done-as}
+use Rattle.protocol.specs.Calls.{bringing}
 use Rattle.find.specs.declared.Found.{Found}
 use Rattle.find.specs.declared.Found.the-variants.{At, Nothing}
 use Rattle.find.specs.Searches.{foundAt}
@@ -34,7 +35,7 @@ use Rattle.offer.specs.Offers.{Offer}
 use Rattle.verdict.specs.Verdicts.{verdictOf}
 use Rattle.verdict.specs.declared.Verdict.{Verdict}
 use Rattle.verdict.specs.declared.Verdict.the-variants as verdict
-use Rattle.spend.specs.Spends.{bringing, Brings, Spendable, mayGrant, grantOrTell, acceptedBy, spentBy, presentedBy}
+use Rattle.spend.specs.Spends.{Brings, Spendable, mayGrant, grantOrTell, acceptedBy, spentBy, presentedBy}
 
 -- A failure
 

@@ -1,6 +1,6 @@
 -- (2) to (6) of the validators, over values that are already decoded: protocol's `presented` in the parts that the code has.
 use mathlib.Core.Path.{_≡_}
-use mathlib.Core.Bool.{Bool, true, false, _&&_, not}
+use mathlib.Core.Bool.{Bool, true, _&&_, not}
 use mathlib.Core.List.{List, []}
 use Prim.Native.Nat.{ℕ, _+_, _≤_, _<_}
 use lib.Dec.{eqb, leb}
@@ -9,7 +9,7 @@ use Rattle.protocol.specs.Bytes.{if, isEmpty, same}
 use Rattle.protocol.specs.Tickets.{aWaiting, deepest}
 use Rattle.protocol.specs.Records.{Rec}
 use Rattle.protocol.specs.Table.{Table, decodeTable, recAt}
-use Rattle.protocol.specs.Register.{Entry, callbackOf, decodeRegister, registerLawful}
+use Rattle.protocol.specs.Register.{Entry, callbackOf, registerLawful}
 use Rattle.protocol.specs.Answers.{InvalidTicket, InvalidService, YesNo, Success}
 use Rattle.protocol.specs.Steps.{Brought, Step, step, remove, roomFor, newRec, chainOf, failed, isPlain, waitingWith}
 use Rattle.protocol.specs.Held.{Lawful, In}
@@ -17,10 +17,6 @@ use Rattle.protocol.specs.declared.Validator.{Validator}
 use Rattle.verdict.specs.Verdicts.{verdictOf}
 use Rattle.verdict.specs.declared.Verdict.{Verdict}
 use Rattle.verdict.specs.declared.Verdict.the-variants as verdict
-
--- what a validator reads of what a request brings: the register and the random input
-abbrev pub bringing : List ℕ → List ℕ → Brought
-bringing register random = record { register = decodeRegister register; cookie = []; random = random; verdict = false }
 
 -- a table, a register, a callback's address, the random input, and an output with room for any answer
 pub record Brings (b g url random o : List ℕ) : Type 0 where

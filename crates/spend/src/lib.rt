@@ -12,9 +12,10 @@ ghost use Rattle.protocol.specs.Table.{decodeTable, recAt};
 ghost use Rattle.protocol.specs.Register.{decodeRegister, registerLawful};
 ghost use Rattle.protocol.specs.Steps.{failed, remove, ticketSlot};
 ghost use Rattle.protocol.specs.Held.{Fine, In, Said, Done};
+ghost use Rattle.protocol.specs.Calls.{bringing};
 ghost use Rattle.xml.specs.Codes.{codeOf};
 ghost use Rattle.chain.specs.Walk.{Within};
-ghost use Rattle.spend.specs.Spends.{bringing, Brings, Spendable, mayGrant, grantOrTell, acceptedBy, spentBy, presentedBy};
+ghost use Rattle.spend.specs.Spends.{Brings, Spendable, mayGrant, grantOrTell, acceptedBy, spentBy, presentedBy};
 
 // The deepest grant.
 const DEEPEST: u8 = 4;

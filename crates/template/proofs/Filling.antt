@@ -8,7 +8,8 @@ use lib.ListN.{length, drop, getD, set, drop-of-length-le}
 use Rattle.protocol.specs.Answers.{Reply, replyText}
 use Rattle.protocol.specs.Written.{Room, Wrote}
 use Rattle.protocol.proofs.Sizes.{Small, small-fits}
-use Rattle.text.proofs.Splice.{Left, left-room, left-put, left-done, wrote-byte, drop-step}
+use Rattle.protocol.proofs.Laws.{drop-step}
+use Rattle.text.proofs.Splice.{Left, left-room, left-put, left-done, wrote-byte}
 use Rattle.template.specs.Template.{slot, fillIn}
 
 -- the output has room for every answer that is small

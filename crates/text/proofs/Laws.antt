@@ -11,7 +11,8 @@ use borrow.Author.Tests.{eq-eqb, ne-eqb, lt-ltb, le-ltb}
 use Rattle.protocol.specs.Bytes.{same, zeros, digits, hexDigit, hex}
 use Rattle.protocol.specs.Answers.{escapedByte, escaped}
 use Rattle.protocol.specs.Written.{Wrote}
-use Rattle.text.proofs.Splice.{Left, left-room, left-start, left-put, left-byte, left-lt, left-done, wrote-byte, wrote-none, drop-step}
+use Rattle.protocol.proofs.Laws.{drop-step}
+use Rattle.text.proofs.Splice.{Left, left-room, left-start, left-put, left-byte, left-lt, left-done, wrote-byte, wrote-none}
 
 -- the loop of `put_zeros`
 zeros-step : (n : ℕ) → 0 < n → zeros n ≡ 0 ∷ zeros (n - 1)

@@ -13,9 +13,10 @@ use native.Mathlib.Nat.{add-zero}
 use native.Mathlib.Numerals.{add-one}
 use native.Mathlib.Omega.{arith}
 use lib.ListN.{length, take, drop, getD, set, length-append, length-drop, length-set, take-append-drop, drop-of-length-le}
-use lib.Seq.{drop-cons, take-at, drop-append-add, drop-drop, length-take-le, set-split}
+use lib.Seq.{take-at, drop-append-add, drop-drop, length-take-le, set-split}
 use Rattle.protocol.specs.Bytes.{spliced, joined}
 use Rattle.protocol.specs.Written.{Room, Wrote}
+use Rattle.protocol.proofs.Laws.{drop-step}
 
 pub splice-nil : (d : List ℕ) (at : ℕ) → spliced d at [] ≡ d
 unfolding spliced
@@ -122,9 +123,6 @@ left-byte {d} {whole} {e} {all} {at} {to} {b} rest l q = left-put {a = b ∷ []}
 
 pub left-lt : {d whole e all : List ℕ} {at to : ℕ} → Left d at whole e to all → 0 < length all → to < length e
 left-lt l h = omega (arith, l .ends, l .room, l .same)
-
-pub drop-step : (s : List ℕ) (i : ℕ) → i < length s → drop i s ≡ getD s i 0 ∷ drop (i + 1) s
-drop-step s i h = rw (add-one, drop-cons s i 0)
 
 -- a loop that copies s
 module _ (d s e : List ℕ) (at to i : ℕ) (l : Left d at s e to (drop i s)) where

@@ -16,7 +16,7 @@ use Rattle.protocol.specs.Request.{malformed, validatorNames, valueOf, fromQuer
 use Rattle.protocol.specs.Answers.{InvalidRequest, InvalidTicket, InvalidService}
 use Rattle.protocol.specs.Steps.{Brought, step, remove, ticketSlot, failed, takesProxies, proxyParent, grants, waitingStep, acceptTicket, judgeTicket, presented, validate}
 use Rattle.protocol.specs.Written.{Wrote}
-use Rattle.protocol.specs.Held.{Said, Done}
+use Rattle.protocol.specs.Held.{Said, Done, Lent}
 use Rattle.protocol.specs.declared.Outcome.{Outcome}
 use Rattle.protocol.specs.declared.Validator.{Validator}
 use Rattle.protocol.specs.declared.Validator.the-variants as validator
@@ -24,6 +24,7 @@ use Rattle.protocol.proofs.Laws.{same-eq}
 use Rattle.protocol.proofs.StepSound.{or-both}
 use Rattle.protocol.proofs.TicketSound.{url-good}
 use Rattle.protocol.proofs.Told.{only-said, done-as}
+use Rattle.protocol.specs.Calls.{bringing}
 use Rattle.text.proofs.Splice.{wrote-none, read-back}
 use Rattle.request.specs.Requests.{validatorQueryOf, callbackLength}
 use Rattle.request.specs.declared.ValidatorQuery.{ValidatorQuery}
@@ -31,8 +32,8 @@ use Rattle.request.specs.declared.ValidatorQuery.the-variants as query
 use Rattle.request.proofs.Values.{validator-told, read-front}
 use Rattle.verdict.specs.Verdicts.{verdictOf}
 use Rattle.verdict.specs.declared.Verdict.the-variants as verdict
-use Rattle.spend.specs.Spends.{bringing, Brings, mayGrant, grantOrTell, acceptedBy, answeredBy, spentBy, presentedBy}
-use Rattle.validate.specs.Asked.{Ready, callbackIn, Told, Asked}
+use Rattle.spend.specs.Spends.{Brings, mayGrant, grantOrTell, acceptedBy, answeredBy, spentBy, presentedBy}
+use Rattle.validate.specs.Asked.{callbackIn, Told, Asked}
 
 -- The callback's address
 
@@ -109,12 +110,12 @@ module _ (v : Validator) (q : List ℕ) (g : Brought) (t : Table) where
   unfolding validate
   asked renew a = rw (a .renews, a .fine, a .service, a .ticket) (sym (presented-same v (ticketSlot (fromQuery "ticket" q) t) q g t))
 
-module _ (v : Validator) (q b g random o : List ℕ) (h : Ready b g random o) where
+module _ (v : Validator) (q b g random o : List ℕ) (h : Lent b g random o) where
   module _ (renew : Bool) (a : Asked v q renew) (z z′ : List ℕ) (u : ℕ) (w : Wrote z 0 z′ u (callbackIn v q)) where
     pub present-ready : Brings b g (take u z′) random o
     present-ready =
         let m : length (take u z′) ≤ 200 = rw (read-back z z′ (callbackIn v q) u w) (callback-most v q (a .fine)) in
-        record { lawful = h .lawful; register = h .register; short = m; drawn = h .drawn; room = h .room }
+        record { lawful = h .lawful; register = h .panels; short = m; drawn = h .drawn; room = h .room }
 
     pub present-done : (x x′ y y′ : List ℕ) (m n : ℕ) → Wrote x 0 x′ m (decoded false (rawValue (ascii "ticket") q)) → Wrote y 0 y′ n (decoded false (rawValue (ascii "service") q)) → (b′ o′ : List ℕ) (r : Outcome)
         → Done (presentedBy v (ticketSlot (take m x′) (decodeTable b)) renew (take n y′) (take u z′) (bringing g random) (decodeTable b)) r b′ o o′

@@ -1,22 +1,13 @@
 -- What a validator is asked, and what it is given to answer with.
 use mathlib.Core.Path.{_≡_}
-use mathlib.Core.Bool.{Bool, true, false}
+use mathlib.Core.Bool.{Bool, false}
 use mathlib.Core.List.{List, []}
-use Prim.Native.Nat.{ℕ, _≤_}
+use Prim.Native.Nat.{ℕ}
 use lib.ListN.{length}
 use Rattle.protocol.specs.Bytes.{isEmpty}
-use Rattle.protocol.specs.Register.{registerLawful}
 use Rattle.protocol.specs.Request.{malformed, validatorNames, fromQuery, present}
-use Rattle.protocol.specs.Held.{Lawful}
 use Rattle.protocol.specs.declared.Validator.{Validator}
 use Rattle.protocol.specs.declared.Validator.the-variants as validator
-
--- a table, a register, the random input, and an output with room for any answer
-pub record Ready (b g random o : List ℕ) : Type 0 where
-  pub lawful : Lawful b
-  pub register : registerLawful g ≡ true
-  pub drawn : length random ≡ 48
-  pub room : 8192 ≤ length o
 
 -- the callback's address, which /cas/validate does not read
 unfoldable pub callbackIn : Validator → List ℕ → List ℕ

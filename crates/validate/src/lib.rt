@@ -12,9 +12,9 @@ ghost use Rattle.protocol.specs.Table.{decodeTable};
 ghost use Rattle.protocol.specs.Request.{malformed, validatorNames};
 ghost use Rattle.protocol.specs.Steps.{validate};
 ghost use Rattle.protocol.specs.Written.{Wrote};
-ghost use Rattle.protocol.specs.Held.{Done};
-ghost use Rattle.spend.specs.Spends.{bringing};
-ghost use Rattle.validate.specs.Asked.{callbackIn, Ready, Told, Asked};
+ghost use Rattle.protocol.specs.Held.{Done, Lent};
+ghost use Rattle.protocol.specs.Calls.{bringing};
+ghost use Rattle.validate.specs.Asked.{callbackIn, Told, Asked};
 
 // The callback's address, which only the two in XML read.
 fn read_callback(validator: Validator, q: &[u8], url: &mut [u8]) -> usize
@@ -41,7 +41,7 @@ fn decode_and_present(
     service: &mut [u8],
     url: &mut [u8],
 ) -> Outcome
-    requires { ⌜ (Ready (now table) (now register) (now random) (now out)) × (Asked validator (now q) renew) × (64 ≤ length (now ticket)) × (200 ≤ length (now service)) × (200 ≤ length (now url)) ⌝ }
+    requires { ⌜ (Lent (now table) (now register) (now random) (now out)) × (Asked validator (now q) renew) × (64 ≤ length (now ticket)) × (200 ≤ length (now service)) × (200 ≤ length (now url)) ⌝ }
     ensures { λ r. ⌜ Done (validate validator (now (q .entry)) (bringing (now (register .entry)) (now (random .entry))) (decodeTable (now (table .entry)))) r (now (table .exit)) (now (out .entry)) (now (out .exit)) ⌝ }
 {
     let t = request::read_query(q, b"ticket", ticket);
@@ -70,7 +70,7 @@ fn present(
     random: &[u8],
     out: &mut [u8],
 ) -> Outcome
-    requires { ⌜ (Ready (now table) (now register) (now random) (now out)) × (Asked validator (now q) renew) ⌝ }
+    requires { ⌜ (Lent (now table) (now register) (now random) (now out)) × (Asked validator (now q) renew) ⌝ }
     ensures { λ r. ⌜ Done (validate validator (now (q .entry)) (bringing (now (register .entry)) (now (random .entry))) (decodeTable (now (table .entry)))) r (now (table .exit)) (now (out .entry)) (now (out .exit)) ⌝ }
 {
     let mut ticket = [0u8; 64];
@@ -102,7 +102,7 @@ fn validate_given(
     random: &[u8],
     out: &mut [u8],
 ) -> Outcome
-    requires { ⌜ (Ready (now table) (now register) (now random) (now out)) × (Told validator (now q) service ticket renew) ⌝ }
+    requires { ⌜ (Lent (now table) (now register) (now random) (now out)) × (Told validator (now q) service ticket renew) ⌝ }
     ensures { λ r. ⌜ Done (validate validator (now (q .entry)) (bringing (now (register .entry)) (now (random .entry))) (decodeTable (now (table .entry)))) r (now (table .exit)) (now (out .entry)) (now (out .exit)) ⌝ }
 {
     if (service == 0) | (ticket == 0) {
@@ -119,7 +119,7 @@ pub fn validate(
     random: &[u8],
     out: &mut [u8],
 ) -> Outcome
-    requires { ⌜ Ready (now table) (now register) (now random) (now out) ⌝ }
+    requires { ⌜ Lent (now table) (now register) (now random) (now out) ⌝ }
     ensures { λ r. ⌜ Done (validate validator (now (q .entry)) (bringing (now (register .entry)) (now (random .entry))) (decodeTable (now (table .entry)))) r (now (table .exit)) (now (out .entry)) (now (out .exit)) ⌝ }
 {
     match request::validator_query(validator, q) {

@@ -1,5 +1,5 @@
 -- The header first; within it the slots and the count decide.
-use Rattle.rules.proofs.Laws.{Bytes}
+use Rattle.block.proofs.Bytewise.{Bytes}
 use Rattle.judge.proofs.Whole.{front-long, front-whole, clock-low, table-wrong, table-right}
 use borrow.Author.Needs.{needs}
 use Rattle.judge.proofs.blocks_lawful.Statement.{statement}

@@ -6,7 +6,7 @@ use lib.ListN.{length, drop}
 use Rattle.protocol.specs.Register.{decodeRegister, callbackOf}
 use Rattle.register.specs.Blockwise.{Sizes, entries}
 use Rattle.register.proofs.Laws.{inside, callback-start, callback-none, callback-hit, callback-next}
-use Rattle.rules.proofs.Laws.{Bytes}
+use Rattle.block.proofs.Bytewise.{Bytes}
 use Rattle.register.proofs.Meaning.{lawful-sizes}
 use Rattle.register.proofs.callback_of.Statement.{statement}
 use Rattle.register.proofs.callback_of.Tie as tie

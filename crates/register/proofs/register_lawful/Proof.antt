@@ -1,6 +1,6 @@
 -- `register::register_lawful` meets its contract: the shape, the blocks, and the services in their turn. Assumes nothing.
 use borrow.Author.Needs.{needs}
-use Rattle.rules.proofs.Laws.{Bytes}
+use Rattle.block.proofs.Bytewise.{Bytes}
 use Rattle.register.proofs.Meaning.{shape-wrong, shape-whole, blocks-bad, judged-sizes, judged-services}
 use Rattle.register.proofs.register_lawful.Statement.{statement}
 use Rattle.register.proofs.register_lawful.Tie as tie

@@ -1,7 +1,7 @@
 -- `register::registered` meets its contract. Assumes nothing.
 use borrow.Author.Needs.{needs}
 use Rattle.register.proofs.Laws.{registered-all}
-use Rattle.rules.proofs.Laws.{Bytes}
+use Rattle.block.proofs.Bytewise.{Bytes}
 use Rattle.register.proofs.Meaning.{lawful-sizes}
 use Rattle.register.proofs.registered.Statement.{statement}
 use Rattle.register.proofs.registered.Tie as tie

@@ -1,6 +1,6 @@
 -- `route::by_get` meets its contract: each path's own step. Assumes nothing.
 use borrow.Author.Needs.{needs}
-use Rattle.route.proofs.Laws.{lent-login, lent-logout, lent-validate, lent-proxy, get-login, get-logout, get-validate, get-proxy, get-unknown}
+use Rattle.route.proofs.Laws.{lent-login, lent-logout, get-login, get-logout, get-validate, get-proxy, get-unknown}
 use Rattle.route.proofs.by_get.Statement.{statement}
 use Rattle.route.proofs.by_get.Tie as tie
 
@@ -28,9 +28,9 @@ by-get-spec =
     (λ c. search needs)
     (λ c κs. search lent-logout)
     (λ c. search needs)
-    (λ c κs. search lent-validate)
+    (λ c κs. search needs)
     (λ c. search needs)
-    (λ c κs. search lent-proxy)
+    (λ c κs. search needs)
     (λ c. search needs)
     (λ c κs. search needs)
     (λ c. search needs)

@@ -1,5 +1,6 @@
 -- By the definition.
-use Rattle.rules.proofs.Laws.{secret-most, secrets-right}
+use Rattle.protocol.proofs.Sizes.{secret-most}
+use Rattle.rules.proofs.Laws.{secrets-right}
 use native.Mathlib.Omega.{arith}
 use borrow.Author.Needs.{needs}
 use Rattle.rules.proofs.secrets_right.Statement.{statement}

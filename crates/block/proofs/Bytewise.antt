@@ -7,19 +7,18 @@ use native.Mathlib.Omega.{arith}
 use native.Mathlib.Decide.{decLt}
 use borrow.Author.Tests.{eqb-true, eq-eqb, ne-eqb, le-leb, lt-leb}
 use lib.Dec.{eqb, lit<}
-use lib.ListN.{length, drop, getD, length-drop, List·getD-eq-default}
-use lib.Seq.{take-add, drop-drop, drop-cons, length-take-le, getD-take, getD-drop}
+use lib.ListN.{length, drop, getD, List·getD-eq-default}
+use lib.Seq.{take-add, drop-drop, drop-cons, getD-take, getD-drop}
+use Rattle.protocol.specs.Blocks.{houseCheck, checkRight, sealed}
 use Rattle.protocol.specs.Bytes.{same, within, allWithin, zeros, padTo, part, num, leOf, bytesOf}
-use Rattle.protocol.proofs.Laws.{same-eq, same-refl, same-append, le-bytes, pad-full}
+use Rattle.protocol.proofs.Laws.{same-eq, same-refl, same-append, le-bytes, pad-full, part-long}
+use Rattle.protocol.proofs.Notice.{house-below}
 
 -- two tests that follow from each other are one
 pub one-test : (a b : Bool) → (a ≡ true → b ≡ true) → (b ≡ true → a ≡ true) → a ≡ b
 one-test true b f g = sym (f refl)
 one-test false true f g = g refl
 one-test false false f g = refl
-
-pub length-part : (b : List ℕ) (at k : ℕ) → at + k ≤ length b → length (part at k b) ≡ k
-length-part b at k h = length-take-le k (drop at b) (rw length-drop (omega arith))
 
 -- a part in two
 cut : (b : List ℕ) (at k m : ℕ) → part at (k + m) b ≡ part at k b ++ part (at + k) m b
@@ -28,7 +27,7 @@ cut b at k m = take-add k m (drop at b) ∙ rw (drop-drop k at b)
 -- the front of what ought to stand there is a test of its own
 pub front-test : (b p q : List ℕ) (at k m : ℕ) {x y : Bool} → length p ≡ k → at + k ≤ length b → same (part at k b) p ≡ x → same (part (at + k) m b) q ≡ y
     → same (part at (k + m) b) (p ++ q) ≡ x && y
-front-test b p q at k m e h f g = rw (cut b at k m, same-append (part at k b) p (part (at + k) m b) q (length-part b at k h ∙ sym e), f, g)
+front-test b p q at k m e h f g = rw (cut b at k m, same-append (part at k b) p (part (at + k) m b) q (part-long at k b h ∙ sym e), f, g)
 
 -- zeros
 zero-within : (x : ℕ) → within 0 0 x ≡ eqb x 0
@@ -59,11 +58,11 @@ module _ (b : List ℕ) (y : (i : ℕ) → getD b i 0 < 256) where
       by-place : Dec (i < k) → getD (part at k b) i 0 < 256
       by-place (yes q) = rw (getD-take k (drop at b) i 0 q, getD-drop at b i 0) (y (at + i))
       by-place (no q) =
-          let l : length (part at k b) ≤ i = rw (length-part b at k g) (omega arith) in
+          let l : length (part at k b) ≤ i = rw (part-long at k b g) (omega arith) in
           rw (List·getD-eq-default (part at k b) 0 l) (lit< tt)
 
   spelt-part : (at k : ℕ) → at + k ≤ length b → bytesOf k (num at k b) ≡ part at k b
-  spelt-part at k g = rw (length-part b at k g) at (spelt (part at k b) (part-bytes at k g))
+  spelt-part at k g = rw (part-long at k b g) at (spelt (part at k b) (part-bytes at k g))
 
   -- a field has its own number's bytes, and another's where the numbers are equal
   pub field-own : (at k : ℕ) → at + k ≤ length b → same (part at k b) (bytesOf k (num at k b)) ≡ true
@@ -91,8 +90,33 @@ full-own s n e = rw (pad-full n s e) (same-refl s)
 -- a text, and zeros behind it
 pub text-own : (b : List ℕ) (at n k : ℕ) → n ≤ k → at + k ≤ length b → same (part at k b) (padTo k (part at n b)) ≡ allWithin 0 0 (part (at + n) (k - n) b)
 text-own b at n k h g =
-    let l : length (part at n b) ≡ n = length-part b at n (omega arith) in
+    let l : length (part at n b) ≡ n = part-long at n b (omega arith) in
     let e : k ≡ n + (k - n) = omega arith in
     let t : same (part at (n + (k - n)) b) (part at n b ++ zeros (k - n)) ≡ allWithin 0 0 (part (at + n) (k - n) b) =
-    front-test b (part at n b) (zeros (k - n)) at n (k - n) l (omega arith) (same-refl (part at n b)) (same-zeros (part (at + n) (k - n) b) (k - n) (length-part b (at + n) (k - n) (omega arith))) in
+    front-test b (part at n b) (zeros (k - n)) at n (k - n) l (omega arith) (same-refl (part at n b)) (same-zeros (part (at + n) (k - n) b) (k - n) (part-long (at + n) (k - n) b (omega arith))) in
     ap (λ (m : ℕ). same (part at m b) (padTo k (part at n b))) e ∙ rw l t
+
+-- what a lent slice holds
+pub record Bytes (b : List ℕ) : Type 0 where
+  pub each : (i : ℕ) → getD b i 0 < 256
+
+-- A block: its 508 bytes and its check
+
+pub under : (a x y : Bool) → (a ≡ true → x ≡ y) → a && x ≡ a && y
+under true x y f = f refl
+under false x y f = refl
+
+eqb-turn : (m n : ℕ) → eqb m n ≡ eqb n m
+eqb-turn m n = one-test (eqb m n) (eqb n m) (λ e. eq-eqb n m (sym (eqb-true m n e))) (λ e. eq-eqb m n (sym (eqb-true n m e)))
+
+-- a block is a sealed one where its 508 bytes are right, and its check
+pub sealed-test : (b body : List ℕ) → length b ≡ 512 → ((i : ℕ) → getD b i 0 < 256) → length body ≡ 508 → same (take 508 b) body && checkRight b ≡ same b (sealed body)
+unfolding sealed checkRight
+sealed-test b body h y l =
+    let f : same (part 508 4 b) (bytesOf 4 (houseCheck body)) ≡ eqb (num 508 4 b) (houseCheck body) = field-test b y 508 4 (houseCheck body) (omega arith) (house-below body) in
+    let s : same (part 0 512 b) (body ++ bytesOf 4 (houseCheck body)) ≡ same (part 0 508 b) body && eqb (num 508 4 b) (houseCheck body) =
+    front-test b body (bytesOf 4 (houseCheck body)) 0 508 4 l (omega arith) refl f in
+    let w : part 0 512 b ≡ b = take-all 512 b (omega arith) in
+    under (same (take 508 b) body) (eqb (houseCheck (take 508 b)) (num 508 4 b)) (eqb (num 508 4 b) (houseCheck body))
+    (λ e. ap (λ (x : List ℕ). eqb (houseCheck x) (num 508 4 b)) (same-eq (take 508 b) body e) ∙ eqb-turn (houseCheck body) (num 508 4 b))
+    ∙ sym (rw w at s)

@@ -1,2 +1,0 @@
--- What the contracts of the dispatch are said in.
-pub mod Lent
