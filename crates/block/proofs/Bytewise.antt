@@ -7,8 +7,8 @@ use native.Mathlib.Omega.{arith}
 use native.Mathlib.Decide.{decLt}
 use borrow.Author.Tests.{eqb-true, eq-eqb, ne-eqb, le-leb, lt-leb}
 use lib.Dec.{eqb, lit<}
-use lib.ListN.{length, drop, getD, List·getD-eq-default}
-use lib.Seq.{take-add, drop-drop, drop-cons, getD-take, getD-drop}
+use lib.ListN.{length, take, drop, getD, List·getD-eq-default}
+use lib.Seq.{take-add, take-all, drop-drop, drop-cons, getD-take, getD-drop}
 use Rattle.protocol.specs.Blocks.{houseCheck, checkRight, sealed}
 use Rattle.protocol.specs.Bytes.{same, within, allWithin, zeros, padTo, part, num, leOf, bytesOf}
 use Rattle.protocol.proofs.Laws.{same-eq, same-refl, same-append, le-bytes, pad-full, part-long}

@@ -7,7 +7,7 @@ use Rattle.protocol.specs.Table.{Table}
 use Rattle.protocol.specs.Steps.{loginGet, loginPage, logout, proxy, proxyBy, getStep}
 use Rattle.protocol.specs.declared.Path.{Path}
 use Rattle.protocol.specs.declared.Path.the-variants as path
-use Rattle.protocol.specs.Calls.{broughtBy}
+use Rattle.protocol.specs.Calls.{broughtBy, bringing}
 use Rattle.logout.specs.Leaving.{leaving}
 use Rattle.validate.proofs.Laws.{unread}
 

@@ -1,5 +1,6 @@
 -- By the comparison part by part.
-use Rattle.rules.proofs.Laws.{Bytes, head-right}
+use Rattle.block.proofs.Bytewise.{Bytes}
+use Rattle.rules.proofs.Laws.{head-right}
 use borrow.Author.Needs.{needs}
 use Rattle.rules.proofs.head_right.Statement.{statement}
 use Rattle.rules.proofs.head_right.Tie as tie

@@ -1,5 +1,6 @@
 -- Limits first; within them the bytes decide.
-use Rattle.rules.proofs.Laws.{Bytes, limits-short, record-wrong, record-right}
+use Rattle.block.proofs.Bytewise.{Bytes}
+use Rattle.rules.proofs.Laws.{limits-short, record-wrong, record-right}
 use borrow.Author.Needs.{needs}
 use Rattle.rules.proofs.record_right.Statement.{statement}
 use Rattle.rules.proofs.record_right.Tie as tie
