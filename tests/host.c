@@ -1,4 +1,5 @@
-/* A host in plain C: it signs a user in, validates, replays the ticket, takes a grant, proxies, and logs out, and checks each answer. */
+/* A host in plain C: it signs a user in, validates, replays the ticket, takes a grant, proxies, to the deepest chain too, and logs out, and
+ * checks each answer. */
 #include "common.h"
 
 static uint8_t table[9 * BLOCK], panels[2 * BLOCK];
@@ -59,8 +60,17 @@ static int says(uint64_t kind, uint64_t status, const char *part)
     return outcome[PYHTIRSO_REFUSAL] == 0 && outcome[PYHTIRSO_KIND] == kind && outcome[PYHTIRSO_STATUS] == status && strstr(said, part) != 0;
 }
 
+static int proxies_told(void)
+{
+    int n = 0;
+    for (const char *at = said; (at = strstr(at, "<cas:proxy>")); at++)
+        n++;
+    return n;
+}
+
 int main(void)
 {
+    int deepened = 0;
     char body[1024], target[2048], ticket[80], pgt[80], iou[80];
     uint64_t wrong[6];
     panel(panels, "https://gate.lan/p", "https://gate.lan/cb");
@@ -103,6 +113,20 @@ int main(void)
     expect("proxyValidate: the chain", says(4, 200, "<cas:proxy>https://gate.lan/cb</cas:proxy>"));
     call(false, target, "", false);
     expect("replay of the proxy ticket", says(4, 200, "code=\"INVALID_TICKET\""));
+
+    for (int depth = 2; depth <= 5; depth++) {
+        snprintf(target, sizeof target, "/cas/proxy?pgt=%s&targetService=https://gate.lan/p", pgt);
+        call(false, target, "", false);
+        snprintf(target, sizeof target, "/cas/proxyValidate?service=https://gate.lan/p&pgtUrl=https://gate.lan/cb&ticket=%s", between("<cas:proxyTicket>", "<"));
+        call(false, target, "", false);
+        if (depth == 5)
+            break;
+        snprintf(pgt, sizeof pgt, "%s", between("pgtId=", "&"));
+        finish((uint32_t)outcome[PYHTIRSO_CALLBACK_SERIAL], true);
+        deepened += says(4, 200, "<cas:proxyGrantingTicket>PGTIOU-");
+    }
+    expect("grants down to depth four", deepened == 3);
+    expect("below it success without a grant, four proxies told", says(4, 200, "<cas:user>ann</cas:user>") && proxies_told() == 4);
 
     call(false, "/cas/logout?url=https://lamp.lan/", "", false);
     expect("log out", says(1, 200, "<a href=\"https://lamp.lan/\">Back</a>") && outcome[PYHTIRSO_COOKIE_CLEARED] == 1);

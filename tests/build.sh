@@ -1,0 +1,36 @@
+# How the C programs of this folder are built over the archive, for the scripts beside it to source from the repository's root.
+# The archive is for x86-64; elsewhere the kit's compiler, linker and emulator are used, with the C headers of the machine.
+machine=$(uname -m)
+kit=$(cd "$(dirname "$(rt doc)")/.." && pwd)/on/$machine/toolchain
+archive=target/staticlib/libexport.a
+
+# The archive, proved.
+build_archive() {
+    mkdir -p target/tests
+    rt staticlib export >target/staticlib.log 2>&1 || { tail -n 3 target/staticlib.log; return 1; }
+}
+
+# compile_kit NAME: tests/NAME.c by the compiler that makes the archive too.
+compile_kit() {
+    "$kit/bin/clang" --target=x86_64-unknown-linux-gnu -O2 -Wall -Wextra -fPIC -isystem "$("${CC:-cc}" -print-file-name=include)" \
+        -isystem "/usr/include/$machine-linux-gnu" -isystem /usr/include -c -o "target/tests/$1.o" "tests/$1.c"
+}
+
+# link_kit PROGRAM WORD...: a program of objects and the archive, with the kit's libc. All names are bound at its start.
+link_kit() {
+    local program=$1 lib=$kit/lib
+    shift
+    "$kit/bin/ld.lld" -pie -z now -o "target/tests/$program" "$lib/Scrt1.o" "$lib/crti.o" "$lib/crtbeginS.o" "$@" "$archive" \
+        "$lib/libc.so.6" "$lib/libc_nonshared.a" "$lib/libgcc.a" "$lib/crtendS.o" "$lib/crtn.o" --dynamic-linker "$lib/ld-linux-x86-64.so.2"
+}
+
+# run_kit PROGRAM ARG...: runs it, emulated where the machine is another.
+run_kit() {
+    local program=$1 lib=$kit/lib
+    shift
+    if [ "$machine" = x86_64 ]; then
+        "$lib/ld-linux-x86-64.so.2" --library-path "$lib" "target/tests/$program" "$@"
+    else
+        "$kit/bin/qemu-x86_64" "$lib/ld-linux-x86-64.so.2" --library-path "$lib" "target/tests/$program" "$@"
+    fi
+}

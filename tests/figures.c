@@ -1,0 +1,274 @@
+/* Executed instructions of the proved archive beside the plain C program: one serviceValidate, one login POST and one refusal, over a table of
+ * 8 and one of 127 records, all held. Both programs get the same bytes, and after each call all that they may write is compared.
+ * Instructions are counted by the processor's trap flag: a signal after each one, natively as under an emulator.
+ * With an argument it only compares: each way through the two steps, with short serials and with the longest. */
+#include "common.h"
+#include "plain.h"
+#include <signal.h>
+
+typedef __typeof__(pyhtirso_answer) answer_call;
+
+enum { MOST = 128 * BLOCK, PANELS = 4, T = 1000, NOW = 1010, SHORT = 1000 };
+enum { FREE, LOGIN, SESSION, SERVICE, PROXY, WAITING, GRANT };
+
+static const char gate[] = "https://gate.lan/p", lamp[] = "https://lamp.lan/", callback[] = "https://gate.lan/cb";
+static uint8_t panels[PANELS * BLOCK];
+static uint32_t first_serial = SHORT;
+static int failed;
+
+/* ---- what a call may write, and what it is asked */
+
+struct lent {
+    uint8_t table[MOST], out[OUT], cookie_out[COOKIE];
+    uint64_t outcome[PYHTIRSO_OUTCOME];
+};
+
+struct asked {
+    int records;
+    bool post;
+    char target[512], body[512], cookie[COOKIE];
+    bool verdict;
+    uint64_t time;
+};
+
+static struct lent proved, plain;
+
+static bool ask(answer_call *answer, struct lent *l, const struct asked *a)
+{
+    return answer(l->table, (size_t)(a->records + 1) * BLOCK, panels, sizeof panels, a->post, (const uint8_t *)a->target, strlen(a->target),
+                  (const uint8_t *)a->body, strlen(a->body), (const uint8_t *)a->cookie, strlen(a->cookie), a->time, random_bytes, RANDOM,
+                  a->verdict, l->out, OUT, l->cookie_out, COOKIE, l->outcome, PYHTIRSO_OUTCOME);
+}
+
+/* ---- a table whose slots are all held */
+
+static void put_number(uint8_t *p, int width, uint64_t v)
+{
+    for (int i = 0; i < width; i++)
+        p[i] = (uint8_t)(v >> (8 * i));
+}
+
+static void put_record(uint8_t *table, int slot, int kind, int mark, int parent, int session, int depth, uint64_t expiry, const char *text)
+{
+    uint8_t *r = table + slot * BLOCK;
+    memset(r, 0, BLOCK);
+    r[0] = (uint8_t)kind;
+    r[1] = (uint8_t)mark;
+    put_number(r + 2, 2, (uint64_t)parent);
+    put_number(r + 4, 2, (uint64_t)session);
+    r[6] = (uint8_t)depth;
+    put_number(r + 8, 4, first_serial + (uint32_t)slot);
+    put_number(r + 16, 8, expiry);
+    for (int i = 0; i < (kind == SESSION || kind >= WAITING ? 16 : 9); i++)
+        r[24 + i] = (uint8_t)(slot * 7 + i * 13);
+    put_number(r + 40, 2, strlen(text));
+    memcpy(r + 44, text, strlen(text));
+    if (kind == WAITING)
+        memset(r + 256, slot, 16);
+    seal(r);
+}
+
+/* Groups of a session with its grant, proxy ticket, waiting grant, a login and a service ticket; then the login ticket and the service ticket
+ * that are presented. The first group's login expires when the call is made. */
+static void fill(uint8_t *table, int records)
+{
+    memset(table, 0, MOST);
+    memcpy(table, "TKTS", 4);
+    put_number(table + 4, 2, (uint64_t)records);
+    put_number(table + 8, 8, T);
+    put_number(table + 16, 4, first_serial + 200);
+    seal(table);
+    for (int k = 1; k <= records - 2; k++) {
+        int role = (k - 1) % 6, first = k - role;
+        switch (role) {
+        case 0: put_record(table, k, SESSION, 0, 0, 0, 0, T + 20000, "ann"); break;
+        case 1: put_record(table, k, GRANT, 0, 0, first, 1, T + 20000, callback); break;
+        case 2: put_record(table, k, PROXY, 0, first + 1, first, 0, T + 200, lamp); break;
+        case 3: put_record(table, k, WAITING, 0, first + 1, first, 2, T + 50, "https://lamp.lan/cb"); break;
+        case 4: put_record(table, k, LOGIN, 0, 0, 0, 0, k == 5 ? NOW : T + 400, ""); break;
+        default: put_record(table, k, SERVICE, 0, first, first, 0, T + 250, gate);
+        }
+    }
+    put_record(table, records - 1, LOGIN, 0, 0, 0, 0, T + 500, "");
+    put_record(table, records, SERVICE, 1, 1, 1, 0, T + 200, gate);
+}
+
+static void fresh(int records)
+{
+    fill(proved.table, records);
+    memset(proved.out, 0xa5, OUT);
+    memset(proved.cookie_out, 0xa5, COOKIE);
+    memset(proved.outcome, 0xa5, sizeof proved.outcome);
+    plain = proved;
+}
+
+/* The text of the ticket in a slot. */
+static const char *name(const uint8_t *table, int slot, const char *prefix)
+{
+    static char text[COOKIE + 16];
+    const uint8_t *r = table + slot * BLOCK;
+    int n = snprintf(text, sizeof text, "%s%u-", prefix, first_serial + (uint32_t)slot);
+    for (int i = 0; i < (r[0] == SESSION || r[0] >= WAITING ? 16 : 9); i++)
+        n += snprintf(text + n, 3, "%02x", r[24 + i]);
+    return text;
+}
+
+static struct asked validating(int records, const char *service, const char *more, int slot, const char *prefix)
+{
+    struct asked a = { .records = records, .time = NOW };
+    fresh(records);
+    snprintf(a.target, sizeof a.target, "/cas/serviceValidate?service=%s&ticket=%s%s", service, slot ? name(proved.table, slot, prefix) : "", more);
+    return a;
+}
+
+static struct asked signing_in(int records, const char *user, const char *service, bool verdict, int cookie)
+{
+    struct asked a = { .records = records, .post = true, .target = "/cas/login", .verdict = verdict, .time = NOW };
+    fresh(records);
+    if (cookie)
+        snprintf(a.cookie, sizeof a.cookie, "%s", name(proved.table, cookie, "TGC-"));
+    snprintf(a.body, sizeof a.body, "username=%s&password=secret&service=%s&lt=%s", user, service, name(proved.table, records - 1, "LT-"));
+    return a;
+}
+
+/* One byte of the last record's text is another that may stand there: only the check of the last block tells. */
+static void damage(int records)
+{
+    proved.table[records * BLOCK + 50] ^= 1;
+    plain.table[records * BLOCK + 50] ^= 1;
+}
+
+/* ---- the two compared */
+
+static void compare(const char *what, const struct asked *a)
+{
+    if (!ask(pyhtirso_answer, &proved, a) || !ask(plain_answer, &plain, a) || memcmp(&proved, &plain, sizeof proved)) {
+        printf("NOT EQUAL: %s: refusal %d and %d, kind %d and %d, status %d and %d\n", what, (int)proved.outcome[0], (int)plain.outcome[0],
+               (int)proved.outcome[1], (int)plain.outcome[1], (int)proved.outcome[2], (int)plain.outcome[2]);
+        failed++;
+    }
+}
+
+/* Each way through the two steps once, so that the plain program is known to be of the same steps. */
+static int compare_ways(int records)
+{
+    static const char coded[] = "https%3A%2F%2Fgate.lan%2Fp";
+    struct asked a;
+    int ways = 0;
+#define WAY(make, change) (a = (make), change, compare(#make " " #change, &a), ways++)
+    WAY(validating(records, coded, "", records, "ST-"), (void)0);
+    WAY(validating(records, coded, "&renew=", records, "ST-"), (void)0);
+    WAY(validating(records, coded, "&renew", 6, "ST-"), (void)0);
+    WAY(validating(records, coded, "&pgtUrl=https://gate.lan/cb", records, "ST-"), (void)0);
+    WAY(validating(records, coded, "&pgtUrl=https://gate.lan/no", records, "ST-"), (void)0);
+    WAY(validating(records, lamp, "", records, "ST-"), (void)0);
+    WAY(validating(records, lamp, "", 3, "PT-"), (void)0);
+    WAY(validating(records, coded, "", 2, "PGT-"), (void)0);
+    WAY(validating(records, coded, "", 0, ""), (void)0);
+    WAY(validating(records, "%4", "", records, "ST-"), (void)0);
+    WAY(validating(records, "", "", records, "ST-"), (void)0);
+    WAY(validating(records, coded, "&&a=%&service", records, "ST-"), (void)0);
+    WAY(validating(records, coded, "", records, "ST-"), a.time = T + 240);
+    WAY(validating(records, coded, "", records, "ST-"), a.time = 0);
+    WAY(validating(records, coded, "", records, "ST-"), a.time = (1ull << 40) + 1);
+    WAY(validating(records, coded, "", records, "ST-"), damage(records));
+    WAY(validating(records, coded, "", records, "ST-"), a.records = 7);
+    WAY(validating(records, coded, "", records, "ST-"), panels[PANELS * BLOCK - 1] ^= 1);
+    panels[PANELS * BLOCK - 1] ^= 1;
+    WAY(signing_in(records, "ann", coded, true, 0), (void)0);
+    WAY(signing_in(records, "ann", coded, true, 1), (void)0);
+    WAY(signing_in(records, "b%2Bo+b", coded, true, 1), (void)0);
+    WAY(signing_in(records, "ann", "", true, 0), (void)0);
+    WAY(signing_in(records, "ann", "", true, 1), (void)0);
+    WAY(signing_in(records, "ann", coded, false, 1), (void)0);
+    WAY(signing_in(records, "ann", "", false, 1), (void)0);
+    WAY(signing_in(records, "", coded, true, 1), (void)0);
+    WAY(signing_in(records, "ann", "https://other.lan/", true, 1), (void)0);
+    WAY(signing_in(records, "ann", "%0a", true, 1), (void)0);
+    WAY(signing_in(records, "ann", coded, true, 0), a.time = T);
+    WAY(signing_in(records, "bob", coded, true, 1), a.time = T + 450);
+    WAY(signing_in(records, "ann", coded, true, 1), a.time = T + 30000);
+#undef WAY
+    return ways;
+}
+
+/* ---- instructions */
+
+static volatile uint64_t steps;
+
+static void on_step(int number)
+{
+    (void)number;
+    steps++;
+}
+
+static uint64_t count(answer_call *answer, struct lent *l, const struct asked *a)
+{
+    steps = 0;
+    __asm__ volatile("pushfq; orq $0x100, (%%rsp); popfq" ::: "memory", "cc");
+    ask(answer, l, a);
+    __asm__ volatile("pushfq; andq $-0x101, (%%rsp); popfq" ::: "memory", "cc");
+    return steps;
+}
+
+/* The same call of nothing: what the caller itself costs. */
+static bool nothing(uint8_t *table, size_t table_len, const uint8_t *register_bytes, size_t register_len, bool post, const uint8_t *target,
+                    size_t target_len, const uint8_t *body, size_t body_len, const uint8_t *cookie, size_t cookie_len, uint64_t time,
+                    const uint8_t *random, size_t random_len, bool verdict, uint8_t *output, size_t out_len, uint8_t *cookie_output,
+                    size_t cookie_out_len, uint64_t *numbers, size_t numbers_len)
+{
+    (void)table, (void)table_len, (void)register_bytes, (void)register_len, (void)post, (void)target, (void)target_len, (void)body;
+    (void)body_len, (void)cookie, (void)cookie_len, (void)time, (void)random, (void)random_len, (void)verdict, (void)output, (void)out_len;
+    (void)cookie_output, (void)cookie_out_len, (void)numbers, (void)numbers_len;
+    return false;
+}
+
+static void measure(const char *what, const struct asked *a)
+{
+    uint64_t caller = count(nothing, &plain, a), mine = count(pyhtirso_answer, &proved, a) - caller, theirs = count(plain_answer, &plain, a) - caller;
+    printf("| %s, %d records | %llu | %llu | %.2f |\n", what, a->records, (unsigned long long)mine, (unsigned long long)theirs,
+           (double)mine / (double)theirs);
+    if (memcmp(&proved, &plain, sizeof proved)) {
+        printf("NOT EQUAL: %s\n", what);
+        failed++;
+    }
+}
+
+int main(int argc, char **argv)
+{
+    static const int sizes[] = { 8, 127 };
+    static const uint32_t serials[] = { 4294967000u, SHORT };
+    struct sigaction action;
+    struct asked a;
+    (void)argv;
+    memset(&action, 0, sizeof action);
+    action.sa_handler = on_step;
+    sigaction(SIGTRAP, &action, 0);
+    panel(panels, gate, callback);
+    panel(panels + BLOCK, lamp, "https://lamp.lan/cb");
+    panel(panels + 2 * BLOCK, "https://siren.lan/s?i=2", "");
+    panel(panels + 3 * BLOCK, "https://camera.lan/view", "https://camera.lan/cb");
+    for (int i = 0; i < RANDOM; i++)
+        random_bytes[i] = (uint8_t)(i * 37 + 11);
+    for (int i = 0; i < 4; i++) {
+        int records = sizes[i % 2];
+        first_serial = serials[i / 2];
+        fresh(records);
+        if (pyhtirso_check(proved.table, (size_t)(records + 1) * BLOCK))
+            printf("NOT LAWFUL: the table of %d records\n", records), failed++;
+        printf("%d calls compared over a table of %d records, serials from %u\n", compare_ways(records), records, first_serial);
+    }
+    if (argc == 1)
+        printf("\n| instructions of | proved | plain C | ratio |\n|---|---|---|---|\n");
+    for (int i = 0; argc == 1 && i < 2; i++) {
+        a = validating(sizes[i], "https%3A%2F%2Fgate.lan%2Fp", "", sizes[i], "ST-");
+        measure("serviceValidate, accepted", &a);
+        a = signing_in(sizes[i], "ann", "https%3A%2F%2Fgate.lan%2Fp", true, 0);
+        measure("login POST, accepted", &a);
+        a = validating(sizes[i], "https%3A%2F%2Fgate.lan%2Fp", "", sizes[i], "ST-");
+        damage(sizes[i]);
+        measure("refusal 2, a byte of the last block", &a);
+    }
+    printf("\n%d faults\n", failed);
+    return failed != 0;
+}

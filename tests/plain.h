@@ -1,0 +1,15 @@
+/* The call of the plain C program: as pyhtirso_answer, for POST to /cas/login and GET of /cas/serviceValidate only. */
+#ifndef PLAIN_H
+#define PLAIN_H
+
+#include <stdbool.h>
+#include <stddef.h>
+#include <stdint.h>
+
+/* Gives false, with nothing written, for a wrong length of `outcome` and for a request that it does not know. */
+bool plain_answer(uint8_t *table, size_t table_len, const uint8_t *panels, size_t panels_len, bool post, const uint8_t *target,
+                  size_t target_len, const uint8_t *body, size_t body_len, const uint8_t *cookie, size_t cookie_len, uint64_t time,
+                  const uint8_t *random, size_t random_len, bool verdict, uint8_t *out, size_t out_len, uint8_t *cookie_out,
+                  size_t cookie_out_len, uint64_t *outcome, size_t outcome_len);
+
+#endif
