@@ -1,4 +1,4 @@
-# How the C programs of this folder are built over the archive, for the scripts beside it to source from the repository's root.
+# How C programs are built over the archive, for the scripts of tests and demo to source from the repository's root.
 # The archive is for x86-64; elsewhere the kit's compiler, linker and emulator are used, with the C headers of the machine.
 machine=$(uname -m)
 kit=$(cd "$(dirname "$(rt doc)")/.." && pwd)/on/$machine/toolchain
@@ -10,10 +10,10 @@ build_archive() {
     rt staticlib export >target/staticlib.log 2>&1 || { tail -n 3 target/staticlib.log; return 1; }
 }
 
-# compile_kit NAME: tests/NAME.c by the compiler that makes the archive too.
+# compile_kit SOURCE: to target/tests, by the compiler that makes the archive too.
 compile_kit() {
     "$kit/bin/clang" --target=x86_64-unknown-linux-gnu -O2 -Wall -Wextra -fPIC -isystem "$("${CC:-cc}" -print-file-name=include)" \
-        -isystem "/usr/include/$machine-linux-gnu" -isystem /usr/include -c -o "target/tests/$1.o" "tests/$1.c"
+        -isystem "/usr/include/$machine-linux-gnu" -isystem /usr/include -c -o "target/tests/$(basename "$1" .c).o" "$1"
 }
 
 # link_kit PROGRAM WORD...: a program of objects and the archive, with the kit's libc. All names are bound at its start.
@@ -32,5 +32,20 @@ run_kit() {
         "$lib/ld-linux-x86-64.so.2" --library-path "$lib" "target/tests/$program" "$@"
     else
         "$kit/bin/qemu-x86_64" "$lib/ld-linux-x86-64.so.2" --library-path "$lib" "target/tests/$program" "$@"
+    fi
+}
+
+# run_c SOURCE ARG...: one program over the archive, by the system's compiler where the archive is of this machine, else by the kit's.
+run_c() {
+    local source=$1 name
+    name=$(basename "$1" .c)
+    shift
+    if [ "$machine" = x86_64 ]; then
+        "${CC:-cc}" -O2 -Wall -Wextra -o "target/tests/$name" "$source" "$archive"
+        "target/tests/$name" "$@"
+    else
+        compile_kit "$source"
+        link_kit "$name" "target/tests/$name.o"
+        run_kit "$name" "$@"
     fi
 }

@@ -1,4 +1,4 @@
-/* What the test host and the hammer share: a table, a register, buffers, and a call of answer by its texts. */
+/* What the programs in C share: buffers for the calls, and the making of a register block. */
 #ifndef COMMON_H
 #define COMMON_H
 
