@@ -50,21 +50,17 @@ pub fn get_u64(s: &[u8], at: usize) -> u64
     get(s, at, 8)
 }
 
-// Is every byte from lo to hi? Zeros are the bytes from 0 to 0.
+// Is every byte from lo to hi? Zeros are the bytes from 0 to 0. The loop has no early end, so that many bytes are taken at a time.
 pub fn all_within(s: &[u8], lo: u8, hi: u8) -> bool
     ensures { λ r. ⌜ r ≡ allWithin lo hi (now (s .entry)) ⌝ }
 {
+    let mut good = true;
     let mut i = 0;
     while i < s.len() {
-        if s[i] < lo {
-            return false;
-        }
-        if hi < s[i] {
-            return false;
-        }
+        good = good & (lo <= s[i]) & (s[i] <= hi);
         i += 1;
     }
-    true
+    good
 }
 
 // ---- fields written
