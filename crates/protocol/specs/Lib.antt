@@ -6,6 +6,7 @@ pub mod Records
 pub mod Table
 pub mod Register
 pub mod Request
+pub mod Calendar
 pub mod Answers
 pub mod Steps
 pub mod Calls

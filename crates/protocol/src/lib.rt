@@ -1,4 +1,5 @@
-// The types of the interface: what a request is, what a call answers, and what reading a form gives.
+// The types of the interface: what a request is, what a call answers, and what reading a form gives. And dates,
+// of which meaning and code speak alike.
 
 pub enum Method {
     Get,
@@ -49,4 +50,17 @@ pub struct Form {
     pub refusal: u32,
     pub username_length: usize,
     pub password_length: usize,
+}
+
+// A day by its place in the year, from 0.
+pub struct YearDay {
+    pub year: u64,
+    pub day: u64,
+}
+
+// A day by its month and its place in the month, both from 1.
+pub struct Date {
+    pub year: u64,
+    pub month: u64,
+    pub day: u64,
 }

@@ -1,0 +1,2 @@
+-- Words for the contracts of this crate's own functions.
+pub mod Years
