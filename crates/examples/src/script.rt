@@ -10,9 +10,11 @@
 //
 // The random input is always the same, so that a ticket's text is told by its serial: secrets of 9 bytes are all c3, those of
 // 16 all a1, the IOU's all b2.
+use super::shown::newline;
 use super::shown::show_form;
 use super::shown::show_outcome;
 use super::shown::show_refusal;
+use super::words::front;
 use super::words::number;
 use super::words::place_of;
 use super::words::word;
@@ -21,12 +23,14 @@ use protocol::Method;
 const RANDOM: [u8; 48] =
     *b"\xa1\xa1\xa1\xa1\xa1\xa1\xa1\xa1\xa1\xa1\xa1\xa1\xa1\xa1\xa1\xa1\xb2\xb2\xb2\xb2\xb2\xb2\xb2\xb2\xb2\xb2\xb2\xb2\xb2\xb2\xb2\xb2\xc3\xc3\xc3\xc3\xc3\xc3\xc3\xc3\xc3\xd4\xd4\xd4\xd4\xd4\xd4\xd4";
 
-pub fn run(script: &[u8], table: &mut [u8], register: &[u8]) {
+pub fn run(script: &[u8], register: &[u8]) {
+    let mut table = [0u8; 4608];
     let mut at = 0;
     while at < script.len() {
         let n = place_of(&script[at..], b'\n');
         let end = at + n;
-        step(&script[at..end], table, register);
+        let after = step(&script[at..end], table, register);
+        table = after;
         if end == script.len() {
             return;
         }
@@ -34,22 +38,27 @@ pub fn run(script: &[u8], table: &mut [u8], register: &[u8]) {
     }
 }
 
-fn step(line: &[u8], table: &mut [u8], register: &[u8]) {
+fn echo(line: &[u8]) {
     io::write_all(1, b"> ");
     io::write_all(1, line);
-    io::write_all(1, b"\n");
+    newline();
+}
+
+// The table after the line's call.
+fn step(line: &[u8], table: [u8; 4608], register: &[u8]) -> [u8; 4608] {
+    echo(line);
     if line.len() == 0 {
-        return;
+        return table;
     }
     let letter = line[0];
     match letter {
-        b'n' => show_refusal(signon::format(table, time_of(line))),
-        b'c' => show_refusal(signon::check(table)),
-        b'g' => get(line, table, register),
-        b'p' => post(line, table, register),
+        b'n' => format(line, table),
+        b'c' => check(table),
+        b'g' => get(line, true, table, register),
+        b'p' => post(line, true, table, register),
         b'f' => finish(line, table),
-        b'r' => read(word(line, 1)),
-        _ => {}
+        b'r' => read(line, table),
+        _ => table,
     }
 }
 
@@ -62,6 +71,18 @@ fn is_yes(line: &[u8]) -> bool {
     check::same(word(line, 2), b"yes")
 }
 
+fn format(line: &[u8], table: [u8; 4608]) -> [u8; 4608] {
+    let mut after = table;
+    show_refusal(signon::format(&mut after, time_of(line)));
+    after
+}
+
+fn check(table: [u8; 4608]) -> [u8; 4608] {
+    show_refusal(signon::check(&table));
+    table
+}
+
+// The table after a request, whose outcome is written where it is shown.
 fn ask(
     method: Method,
     target: &[u8],
@@ -69,13 +90,15 @@ fn ask(
     cookie: &[u8],
     time: u64,
     verdict: bool,
-    table: &mut [u8],
+    shown: bool,
+    table: [u8; 4608],
     register: &[u8],
-) {
+) -> [u8; 4608] {
+    let mut after = table;
     let mut out = [0u8; 8192];
     let mut cookie_out = [0u8; 64];
     let o = signon::answer(
-        table,
+        &mut after,
         register,
         method,
         target,
@@ -87,25 +110,28 @@ fn ask(
         &mut out,
         &mut cookie_out,
     );
-    show_outcome(o, &out, &cookie_out);
+    show_outcome(shown, o, &out, &cookie_out);
+    after
 }
 
-fn get(line: &[u8], table: &mut [u8], register: &[u8]) {
+pub fn get(line: &[u8], shown: bool, table: [u8; 4608], register: &[u8]) -> [u8; 4608] {
     let target = word(line, 2);
     let cookie = word(line, 3);
+    let no_body = front(line, 0);
     ask(
         Method::Get,
         target,
-        b"",
+        no_body,
         cookie,
         time_of(line),
         false,
+        shown,
         table,
         register,
-    );
+    )
 }
 
-fn post(line: &[u8], table: &mut [u8], register: &[u8]) {
+pub fn post(line: &[u8], shown: bool, table: [u8; 4608], register: &[u8]) -> [u8; 4608] {
     let target = word(line, 3);
     let body = word(line, 4);
     let cookie = word(line, 5);
@@ -116,21 +142,32 @@ fn post(line: &[u8], table: &mut [u8], register: &[u8]) {
         cookie,
         time_of(line),
         is_yes(line),
+        shown,
         table,
         register,
-    );
+    )
 }
 
-fn finish(line: &[u8], table: &mut [u8]) {
+fn finish(line: &[u8], table: [u8; 4608]) -> [u8; 4608] {
+    let mut after = table;
     let mut out = [0u8; 8192];
     let serial = number(word(line, 3)) % 4294967296;
-    let o = signon::finish(table, serial as u32, is_yes(line), time_of(line), &mut out);
-    show_outcome(o, &out, b"");
+    let o = signon::finish(
+        &mut after,
+        serial as u32,
+        is_yes(line),
+        time_of(line),
+        &mut out,
+    );
+    let no_cookie = front(line, 0);
+    show_outcome(true, o, &out, no_cookie);
+    after
 }
 
-fn read(body: &[u8]) {
+fn read(line: &[u8], table: [u8; 4608]) -> [u8; 4608] {
     let mut username = [0u8; 64];
     let mut password = [0u8; 128];
-    let form = signon::read_form(body, &mut username, &mut password);
+    let form = signon::read_form(word(line, 1), &mut username, &mut password);
     show_form(form, &username, &password);
+    table
 }

@@ -1,24 +1,41 @@
 // What a call answered, as text: its numbers on a line, then its bytes, and a line feed after them.
 use super::words::front;
+use super::words::word;
 use protocol::Answer;
 use protocol::Form;
 use protocol::Outcome;
 
-fn show_kind(a: Answer) {
+pub fn newline() {
+    io::write_all(1, b"\n");
+}
+
+fn show_bytes(bytes: &[u8]) {
+    io::write_all(1, bytes);
+    newline();
+}
+
+fn number_of(a: Answer) -> u32 {
     match a {
-        Answer::Nothing => io::write_all(1, b"nothing"),
-        Answer::Page(_) => io::write_all(1, b"page"),
-        Answer::Redirect(_) => io::write_all(1, b"redirect"),
-        Answer::Text(_) => io::write_all(1, b"text"),
-        Answer::Xml(_) => io::write_all(1, b"xml"),
-        Answer::Callback(_) => io::write_all(1, b"callback"),
+        Answer::Nothing => 0,
+        Answer::Page(_) => 1,
+        Answer::Redirect(_) => 2,
+        Answer::Text(_) => 3,
+        Answer::Xml(_) => 4,
+        Answer::Callback(_) => 5,
     }
-    ;
+}
+
+fn show_kind(number: u32) {
+    io::write_all(1, word(b"nothing page redirect text xml callback", number));
 }
 
 fn show_named(name: &[u8], n: u64) {
     io::write_all(1, name);
     io::print_decimal(1, n);
+}
+
+fn show_status(status: u32) {
+    show_named(b" ", status as u64);
 }
 
 fn show_cookie(cookie: &[u8]) {
@@ -44,30 +61,32 @@ fn show_serial(serial: u32) {
 
 pub fn show_refusal(n: u32) {
     show_named(b"refusal ", n as u64);
-    io::write_all(1, b"\n\n");
+    newline();
+    newline();
 }
 
-pub fn show_outcome(o: Outcome, out: &[u8], cookie: &[u8]) {
+pub fn show_outcome(shown: bool, o: Outcome, out: &[u8], cookie: &[u8]) {
+    if !shown {
+        return;
+    }
     if o.refusal != 0 {
         return show_refusal(o.refusal);
     }
     let a = o.answer;
-    show_kind(a);
-    show_named(b" ", o.status as u64);
+    show_kind(number_of(a));
+    show_status(o.status);
     show_cookie(front(cookie, o.cookie_length));
     show_cleared(o.cookie_cleared);
     show_serial(o.callback_serial);
-    io::write_all(1, b"\n");
-    io::write_all(1, front(out, o.length));
-    io::write_all(1, b"\n");
+    newline();
+    show_bytes(front(out, o.length));
 }
 
 pub fn show_form(form: Form, username: &[u8], password: &[u8]) {
     if form.refusal != 0 {
         return show_refusal(form.refusal);
     }
-    io::write_all(1, front(username, form.username_length));
-    io::write_all(1, b"\n");
-    io::write_all(1, front(password, form.password_length));
-    io::write_all(1, b"\n\n");
+    show_bytes(front(username, form.username_length));
+    show_bytes(front(password, form.password_length));
+    newline();
 }

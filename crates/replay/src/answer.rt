@@ -1,15 +1,16 @@
 // The frame of an answer: its fields and texts read, the call made on the bytes that they name.
 use super::Held;
 use super::cut;
-use super::frame::CUT;
-use super::frame::fill;
 use super::frame::part;
 use super::frame::read_after;
+use super::frame::read_byte;
+use super::frame::read_long;
+use super::frame::read_number;
 use super::frame::within;
 use super::line::say_outcome;
 use protocol::Method;
 
-// What the frame says before its texts; the size of the output is CUT where that is.
+// What the frame says before its texts; the size of the cookie output is CUT where any of it is cut.
 struct Asked {
     post: bool,
     time: u64,
@@ -19,23 +20,17 @@ struct Asked {
 }
 
 fn read_asked() -> Asked {
-    let mut fields = [0u8; 18];
-    let got = io::read_full(0, &mut fields);
-    if got < 18 {
-        return Asked {
-            post: false,
-            time: 0,
-            verdict: false,
-            out: CUT,
-            cookie_out: 0,
-        };
-    }
+    let post = read_byte() != 0;
+    let time = read_long();
+    let verdict = read_byte() != 0;
+    let out = read_number();
+    let cookie_out = read_number();
     Asked {
-        post: fields[0] != 0,
-        time: block::get(&fields, 1, 8),
-        verdict: fields[9] != 0,
-        out: block::get(&fields, 10, 4),
-        cookie_out: block::get(&fields, 14, 4),
+        post,
+        time,
+        verdict,
+        out,
+        cookie_out,
     }
 }
 
@@ -82,8 +77,8 @@ pub fn answer(held: Held, table: &mut [u8], register: &[u8]) -> Held {
 }
 
 fn answer_texts(table: &mut [u8], register: &[u8], asked: Asked, ends: Ends, texts: &[u8]) {
-    let mut out = [0u8; 16384];
-    let mut cookie_out = [0u8; 4096];
+    let mut out = [0xEEu8; 16384];
+    let mut cookie_out = [0xDDu8; 4096];
     let o = within(asked.out, &out);
     let c = within(asked.cookie_out, &cookie_out);
     answer_call(
@@ -114,8 +109,6 @@ fn answer_call(
     out: &mut [u8],
     cookie_out: &mut [u8],
 ) {
-    fill(out, 0xEE);
-    fill(cookie_out, 0xDD);
     let method = method_of(asked.post);
     let outcome = signon::answer(
         table,
@@ -130,5 +123,5 @@ fn answer_call(
         out,
         cookie_out,
     );
-    say_outcome(b"A", outcome, out, cookie_out, table);
+    say_outcome(b'A', outcome, out, cookie_out, table);
 }

@@ -1,5 +1,5 @@
 // The fields of a frame, read from standard input, and the bytes of a lent buffer set before a call.
-ghost use Prim.Native.Nat.{_+_, _≤_};
+ghost use Prim.Native.Nat.{_+_, _≤_, _<_};
 ghost use Rattle.io.specs.Counts.{Counts};
 
 // What a reader answers where the input ends within the field, or the field is longer than its buffer.
@@ -19,7 +19,23 @@ pub fn lacks(buf: &[u8], n: u64) -> bool {
     (buf.len() as u64) < n
 }
 
-// A number of four bytes, or CUT.
+pub fn wide(x: u8) -> u64
+    ensures { λ r. ⌜ r < 256 ⌝ }
+{
+    x as u64
+}
+
+// One byte, or CUT.
+pub fn read_byte() -> u64 {
+    let mut b = [0u8; 1];
+    let got = io::read_full(0, &mut b);
+    if got < 1 {
+        return CUT;
+    }
+    wide(b[0])
+}
+
+// A number of four bytes, or CUT. Where one is cut, every later one is.
 pub fn read_number() -> u64
     ensures { λ r. ⌜ r ≤ 4294967296 ⌝ }
 {
@@ -29,6 +45,17 @@ pub fn read_number() -> u64
         return CUT;
     }
     block::get(&b, 0, 4)
+}
+
+// A number of eight bytes, from its two halves.
+pub fn whole(low: u64, high: u64) -> u64 {
+    high % 4294967296 * 4294967296 + low % 4294967296
+}
+
+pub fn read_long() -> u64 {
+    let low = read_number();
+    let high = read_number();
+    whole(low, high)
 }
 
 // A field of bytes, put at the start of buf: how many there are, or CUT.

@@ -4,13 +4,9 @@ use protocol::Form;
 use protocol::Outcome;
 ghost use Prim.Native.Nat.{_≤_, _<_, _+_};
 ghost use lib.ListN.{length};
+use super::frame::part;
+use super::frame::wide;
 use super::frame::within;
-
-fn wide(x: u8) -> u64
-    ensures { λ r. ⌜ r < 256 ⌝ }
-{
-    x as u64
-}
 
 // The house check's value worked over a buffer of any length.
 fn sum(s: &[u8]) -> u64 {
@@ -25,8 +21,22 @@ fn sum(s: &[u8]) -> u64 {
     b * 65536 + a
 }
 
-fn say_number(n: u64) {
+// The call's letter begins its line.
+fn say_letter(letter: u8) {
+    let text = [letter];
+    io::write_all(1, &text);
+}
+
+fn say_space() {
     io::write_all(1, b" ");
+}
+
+fn end_line() {
+    io::write_all(1, b"\n");
+}
+
+fn say_number(n: u64) {
+    say_space();
     io::print_decimal(1, n);
 }
 
@@ -54,14 +64,17 @@ fn part_end(s: &[u8], from: usize) -> usize
     from + 256
 }
 
+fn say_none() {
+    io::write_all(1, b"-");
+}
+
 // Bytes up to a length, in lowercase hex; `-` for none.
 fn say_bytes(s: &[u8], length: usize) {
+    say_space();
     let n = within(length as u64, s);
     if n == 0 {
-        io::write_all(1, b" -");
-        return;
+        return say_none();
     }
-    io::write_all(1, b" ");
     say_hex(&s[..n]);
 }
 
@@ -75,15 +88,15 @@ fn say_hex(s: &[u8]) {
 }
 
 // Format and check: the refusal and the sum of the table.
-pub fn say_table(letter: &[u8], refusal: u32, table: &[u8]) {
-    io::write_all(1, letter);
+pub fn say_table(letter: u8, refusal: u32, table: &[u8]) {
+    say_letter(letter);
     say_number(refusal as u64);
     say_sum(table);
-    io::write_all(1, b"\n");
+    end_line();
 }
 
 pub fn say_form(form: Form, username: &[u8], password: &[u8]) {
-    io::write_all(1, b"R");
+    say_letter(b'R');
     say_number(form.refusal as u64);
     say_number(form.username_length as u64);
     say_number(form.password_length as u64);
@@ -91,7 +104,7 @@ pub fn say_form(form: Form, username: &[u8], password: &[u8]) {
     say_bytes(password, form.password_length);
     say_sum(username);
     say_sum(password);
-    io::write_all(1, b"\n");
+    end_line();
 }
 
 fn kind_of(a: Answer) -> u64 {
@@ -106,15 +119,20 @@ fn kind_of(a: Answer) -> u64 {
 }
 
 // Answer and finish: the outcome, the bytes that it reports, and the sums of all that the call may write.
-pub fn say_outcome(letter: &[u8], o: Outcome, out: &[u8], cookie: &[u8], table: &[u8]) {
-    io::write_all(1, letter);
+pub fn say_outcome(letter: u8, o: Outcome, out: &[u8], cookie: &[u8], table: &[u8]) {
+    say_letter(letter);
     say_fields(o);
     say_bytes(out, o.length);
     say_bytes(cookie, o.cookie_length);
     say_sum(out);
     say_sum(cookie);
     say_sum(table);
-    io::write_all(1, b"\n");
+    end_line();
+}
+
+// Finish gives no cookie.
+pub fn say_finish(o: Outcome, out: &[u8], table: &[u8]) {
+    say_outcome(b'N', o, out, part(out, 0, 0), table);
 }
 
 fn say_fields(o: Outcome) {

@@ -17,14 +17,18 @@ mod frame;
 mod line;
 
 use answer::answer;
+use frame::CUT;
 use frame::fill;
 use frame::lacks;
 use frame::part;
+use frame::read_byte;
 use frame::read_bytes;
+use frame::read_long;
 use frame::read_number;
+use frame::whole;
 use frame::within;
+use line::say_finish;
 use line::say_form;
-use line::say_outcome;
 use line::say_table;
 ghost use Prim.Native.Nat.{_<_};
 
@@ -84,19 +88,25 @@ fn unknown() -> Held {
 }
 
 fn step(held: Held, table: &mut [u8], register: &mut [u8]) -> Held {
-    let mut letter = [0u8; 1];
-    let got = io::read_full(0, &mut letter);
-    if got == 0 {
+    let got = read_byte();
+    if got == CUT {
         return stop();
     }
-    let kind = letter[0];
-    match kind {
+    let letter = (got % 256) as u8;
+    match letter {
         b'G' => take_register(held, register),
+        b'A' => answer(held, table, register),
+        _ => step_on_table(letter, held, table),
+    }
+}
+
+// The frames that need no register.
+fn step_on_table(letter: u8, held: Held, table: &mut [u8]) -> Held {
+    match letter {
         b'P' => poke(held, table),
         b'F' => format(held, table),
         b'C' => check(held, table),
         b'R' => read_form(held),
-        b'A' => answer(held, table, register),
         b'N' => finish(held, table),
         _ => unknown(),
     }
@@ -128,14 +138,15 @@ fn poke(held: Held, table: &mut [u8]) -> Held {
 }
 
 fn format(held: Held, table: &mut [u8]) -> Held {
-    let mut fields = [0u8; 13];
-    let got = io::read_full(0, &mut fields);
-    let size = block::get(&fields, 0, 4);
-    if (got < 13) | lacks(table, size) {
+    let size = read_number();
+    let v = read_byte();
+    let low = read_number();
+    let high = read_number();
+    if (high == CUT) | lacks(table, size) {
         return cut();
     }
     let n = within(size, table);
-    format_call(&mut table[..n], fields[4], block::get(&fields, 5, 8));
+    format_call(&mut table[..n], (v % 256) as u8, whole(low, high));
     Held {
         table: size,
         register: held.register,
@@ -146,7 +157,7 @@ fn format(held: Held, table: &mut [u8]) -> Held {
 fn format_call(table: &mut [u8], v: u8, time: u64) {
     fill(table, v);
     let refusal = signon::format(table, time);
-    say_table(b"F", refusal, table);
+    say_table(b'F', refusal, table);
 }
 
 fn check(held: Held, table: &[u8]) -> Held {
@@ -156,7 +167,7 @@ fn check(held: Held, table: &[u8]) -> Held {
 
 fn check_call(table: &[u8]) {
     let refusal = signon::check(table);
-    say_table(b"C", refusal, table);
+    say_table(b'C', refusal, table);
 }
 
 fn read_form(held: Held) -> Held {
@@ -175,46 +186,38 @@ fn read_form(held: Held) -> Held {
 }
 
 fn read_form_sized(body: &[u8], username_size: u64, password_size: u64) {
-    let mut username = [0u8; 4096];
-    let mut password = [0u8; 4096];
+    let mut username = [0xCCu8; 4096];
+    let mut password = [0xBBu8; 4096];
     let u = within(username_size, &username);
     let p = within(password_size, &password);
     read_form_call(body, &mut username[..u], &mut password[..p]);
 }
 
 fn read_form_call(body: &[u8], username: &mut [u8], password: &mut [u8]) {
-    fill(username, 0xCC);
-    fill(password, 0xBB);
     let form = signon::read_form(body, username, password);
     say_form(form, username, password);
 }
 
 fn finish(held: Held, table: &mut [u8]) -> Held {
-    let mut fields = [0u8; 17];
-    let got = io::read_full(0, &mut fields);
-    let size = block::get(&fields, 13, 4);
-    if (got < 17) | (16384 < size) {
+    let serial = read_number();
+    let outcome = read_byte() != 0;
+    let time = read_long();
+    let size = read_number();
+    if 16384 < size {
         return cut();
     }
     let n = within(held.table, table);
-    finish_sized(
-        &mut table[..n],
-        block::get_u32(&fields, 0),
-        fields[4] != 0,
-        block::get(&fields, 5, 8),
-        size,
-    );
+    finish_sized(&mut table[..n], (serial % CUT) as u32, outcome, time, size);
     held
 }
 
 fn finish_sized(table: &mut [u8], serial: u32, outcome: bool, time: u64, size: u64) {
-    let mut out = [0u8; 16384];
+    let mut out = [0xEEu8; 16384];
     let n = within(size, &out);
     finish_call(table, serial, outcome, time, &mut out[..n]);
 }
 
 fn finish_call(table: &mut [u8], serial: u32, outcome: bool, time: u64, out: &mut [u8]) {
-    fill(out, 0xEE);
     let outcome = signon::finish(table, serial, outcome, time, out);
-    say_outcome(b"N", outcome, out, b"", table);
+    say_finish(outcome, out, table);
 }

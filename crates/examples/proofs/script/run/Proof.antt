@@ -1,5 +1,4 @@
--- Each line begins behind the last, and the table keeps its length.
-use mathlib.Core.Path.{_≡_}
+-- Each line begins behind the last.
 use Prim.Native.Nat.{_-_, _≤_}
 use lib.ListN.{length}
 use borrow.Author.Needs.{needs}
@@ -7,10 +6,10 @@ use Rattle.examples.proofs.script.run.Statement.{statement}
 use Rattle.examples.proofs.script.run.Tie as tie
 
 abbrev Inv-loop : tie.InvT-loop
-Inv-loop script table₀ register at₀ table at = (at ≤ length script) × (length table ≡ length table₀)
+Inv-loop script register table₀ at₀ table at = at ≤ length script
 
 abbrev μ-loop : tie.MeasureT-loop
-μ-loop script table₀ register at₀ table at = length script - at
+μ-loop script register table₀ at₀ table at = length script - at
 
 pub run-spec : {M : Type 1} → statement M
 run-spec =
@@ -28,8 +27,6 @@ run-spec =
     (λ c. search needs)
     (λ c. search needs)
     (λ c κs. search needs)
-    (λ c. search needs)
-    (λ c. search needs)
     (λ c. search needs)
     (λ c. search needs)
     (λ c. search needs)
