@@ -1,19 +1,20 @@
-/* Executed instructions of the proved archive beside the plain C program: one serviceValidate, one login POST and one refusal, over a table of
- * 8 and one of 127 records, all held. Both programs get the same bytes, and after each call all that they may write is compared.
+/* Executed instructions of the proved archive beside the two plain C programs: one serviceValidate, one login POST and one refusal, over a table
+ * of 8 and one of 127 records, all held. All programs get the same bytes, and after each call all that they may write is compared.
  * Instructions are counted by the processor's trap flag: a signal after each one, natively as under an emulator.
- * With an argument it only compares: each way through the two steps, with short serials and with the longest. */
+ * With an argument it only compares: each way through the two steps, with serials and dates as they are usual and with the longest. */
 #include "common.h"
 #include "plain.h"
 #include <signal.h>
 
 typedef __typeof__(pyhtirso_answer) answer_call;
 
-enum { MOST = 128 * BLOCK, PANELS = 4, T = 1000, NOW = 1010, SHORT = 1000 };
+enum { MOST = 128 * BLOCK, PANELS = 4 };
 enum { FREE, LOGIN, SESSION, SERVICE, PROXY, WAITING, GRANT };
 
 static const char gate[] = "https://gate.lan/p", lamp[] = "https://lamp.lan/", callback[] = "https://gate.lan/cb";
 static uint8_t panels[PANELS * BLOCK];
-static uint32_t first_serial = SHORT;
+static uint32_t first_serial;
+static uint64_t T; /* the table's clock */
 static int failed;
 
 /* ---- what a call may write, and what it is asked */
@@ -31,7 +32,8 @@ struct asked {
     uint64_t time;
 };
 
-static struct lent proved, plain;
+static struct lent proved, plain, whole;
+static struct lent *const all[] = { &proved, &plain, &whole };
 
 static bool ask(answer_call *answer, struct lent *l, const struct asked *a)
 {
@@ -65,6 +67,8 @@ static void put_record(uint8_t *table, int slot, int kind, int mark, int parent,
     memcpy(r + 44, text, strlen(text));
     if (kind == WAITING)
         memset(r + 256, slot, 16);
+    if (kind == SESSION)
+        put_number(r + 272, 8, T - 3600 - (uint64_t)slot);
     seal(r);
 }
 
@@ -75,6 +79,7 @@ static void fill(uint8_t *table, int records)
     memset(table, 0, MOST);
     memcpy(table, "TKTS", 4);
     put_number(table + 4, 2, (uint64_t)records);
+    table[6] = 1;
     put_number(table + 8, 8, T);
     put_number(table + 16, 4, first_serial + 200);
     seal(table);
@@ -84,8 +89,8 @@ static void fill(uint8_t *table, int records)
         case 0: put_record(table, k, SESSION, 0, 0, 0, 0, T + 20000, "ann"); break;
         case 1: put_record(table, k, GRANT, 0, 0, first, 1, T + 20000, callback); break;
         case 2: put_record(table, k, PROXY, 0, first + 1, first, 0, T + 200, lamp); break;
-        case 3: put_record(table, k, WAITING, 0, first + 1, first, 2, T + 50, "https://lamp.lan/cb"); break;
-        case 4: put_record(table, k, LOGIN, 0, 0, 0, 0, k == 5 ? NOW : T + 400, ""); break;
+        case 3: put_record(table, k, WAITING, 1, first + 1, first, 2, T + 50, "https://lamp.lan/cb"); break;
+        case 4: put_record(table, k, LOGIN, 0, 0, 0, 0, T + (k == 5 ? 10 : 400), ""); break;
         default: put_record(table, k, SERVICE, 0, first, first, 0, T + 250, gate);
         }
     }
@@ -99,7 +104,7 @@ static void fresh(int records)
     memset(proved.out, 0xa5, OUT);
     memset(proved.cookie_out, 0xa5, COOKIE);
     memset(proved.outcome, 0xa5, sizeof proved.outcome);
-    plain = proved;
+    plain = whole = proved;
 }
 
 /* The text of the ticket in a slot. */
@@ -115,7 +120,7 @@ static const char *name(const uint8_t *table, int slot, const char *prefix)
 
 static struct asked validating(int records, const char *service, const char *more, int slot, const char *prefix)
 {
-    struct asked a = { .records = records, .time = NOW };
+    struct asked a = { .records = records, .time = T + 10 };
     fresh(records);
     snprintf(a.target, sizeof a.target, "/cas/serviceValidate?service=%s&ticket=%s%s", service, slot ? name(proved.table, slot, prefix) : "", more);
     return a;
@@ -123,7 +128,7 @@ static struct asked validating(int records, const char *service, const char *mor
 
 static struct asked signing_in(int records, const char *user, const char *service, bool verdict, int cookie)
 {
-    struct asked a = { .records = records, .post = true, .target = "/cas/login", .verdict = verdict, .time = NOW };
+    struct asked a = { .records = records, .post = true, .target = "/cas/login", .verdict = verdict, .time = T + 10 };
     fresh(records);
     if (cookie)
         snprintf(a.cookie, sizeof a.cookie, "%s", name(proved.table, cookie, "TGC-"));
@@ -134,19 +139,35 @@ static struct asked signing_in(int records, const char *user, const char *servic
 /* One byte of the last record's text is another that may stand there: only the check of the last block tells. */
 static void damage(int records)
 {
-    proved.table[records * BLOCK + 50] ^= 1;
-    plain.table[records * BLOCK + 50] ^= 1;
+    for (int i = 0; i < 3; i++)
+        all[i]->table[records * BLOCK + 50] ^= 1;
 }
 
-/* ---- the two compared */
-
-static void compare(const char *what, const struct asked *a)
+/* A field of a block is another, under a right check. */
+static void set(int slot, int at, int width, uint64_t v)
 {
-    if (!ask(pyhtirso_answer, &proved, a) || !ask(plain_answer, &plain, a) || memcmp(&proved, &plain, sizeof proved)) {
+    for (int i = 0; i < 3; i++) {
+        put_number(all[i]->table + slot * BLOCK + at, width, v);
+        seal(all[i]->table + slot * BLOCK);
+    }
+}
+
+/* ---- the programs compared */
+
+static void hold_equal(const char *what)
+{
+    if (memcmp(&proved, &plain, sizeof proved) || memcmp(&proved, &whole, sizeof proved)) {
         printf("NOT EQUAL: %s: refusal %d and %d, kind %d and %d, status %d and %d\n", what, (int)proved.outcome[0], (int)plain.outcome[0],
                (int)proved.outcome[1], (int)plain.outcome[1], (int)proved.outcome[2], (int)plain.outcome[2]);
         failed++;
     }
+}
+
+static void compare(const char *what, const struct asked *a)
+{
+    if (!ask(pyhtirso_answer, &proved, a) || !ask(plain_answer, &plain, a) || !ask(plain_whole, &whole, a))
+        printf("NOT KNOWN: %s\n", what), failed++;
+    hold_equal(what);
 }
 
 /* Each way through the two steps once, so that the plain program is known to be of the same steps. */
@@ -173,6 +194,22 @@ static int compare_ways(int records)
     WAY(validating(records, coded, "", records, "ST-"), a.time = (1ull << 40) + 1);
     WAY(validating(records, coded, "", records, "ST-"), damage(records));
     WAY(validating(records, coded, "", records, "ST-"), a.records = 7);
+    WAY(validating(records, coded, "", 6, "ST-"), (void)0);
+    WAY(validating(records, coded, "&pgtUrl=https://gate.lan/cb", 6, "ST-"), (void)0);
+    WAY(validating(records, coded, "", records, "ST-"), set(1, 272, 8, 0));
+    WAY(validating(records, coded, "", records, "ST-"), set(1, 272, 8, 951782399)); /* the last second of 28 February 2000 */
+    WAY(validating(records, coded, "", records, "ST-"), set(1, 272, 8, 951782400));
+    WAY(validating(records, coded, "", records, "ST-"), set(1, 272, 8, 951868800));
+    WAY(validating(records, coded, "", records, "ST-"), set(1, 272, 8, T));
+    WAY(validating(records, coded, "", records, "ST-"), set(1, 272, 8, T + 1));
+    WAY(validating(records, coded, "", records, "ST-"), set(2, 272, 8, 1));
+    WAY(validating(records, coded, "", records, "ST-"), set(1, 280, 1, 1));
+    WAY(validating(records, coded, "", records, "ST-"), set(4, 1, 1, 0));
+    WAY(validating(records, coded, "", records, "ST-"), set(4, 1, 1, 2));
+    WAY(validating(records, coded, "", records, "ST-"), set(2, 1, 1, 1));
+    WAY(validating(records, coded, "", records, "ST-"), set(0, 6, 2, 0));
+    WAY(validating(records, coded, "", records, "ST-"), set(0, 6, 2, 2));
+    WAY(validating(records, coded, "", records, "ST-"), set(0, 6, 2, 257));
     WAY(validating(records, coded, "", records, "ST-"), panels[PANELS * BLOCK - 1] ^= 1);
     panels[PANELS * BLOCK - 1] ^= 1;
     WAY(signing_in(records, "ann", coded, true, 0), (void)0);
@@ -225,19 +262,18 @@ static bool nothing(uint8_t *table, size_t table_len, const uint8_t *register_by
 
 static void measure(const char *what, const struct asked *a)
 {
-    uint64_t caller = count(nothing, &plain, a), mine = count(pyhtirso_answer, &proved, a) - caller, theirs = count(plain_answer, &plain, a) - caller;
-    printf("| %s, %d records | %llu | %llu | %.2f |\n", what, a->records, (unsigned long long)mine, (unsigned long long)theirs,
-           (double)mine / (double)theirs);
-    if (memcmp(&proved, &plain, sizeof proved)) {
-        printf("NOT EQUAL: %s\n", what);
-        failed++;
-    }
+    uint64_t caller = count(nothing, &plain, a), mine = count(pyhtirso_answer, &proved, a) - caller;
+    uint64_t early = count(plain_answer, &plain, a) - caller, late = count(plain_whole, &whole, a) - caller;
+    printf("| %s, %d records | %llu | %llu | %.2f | %llu | %.2f |\n", what, a->records, (unsigned long long)mine, (unsigned long long)early,
+           (double)mine / (double)early, (unsigned long long)late, (double)mine / (double)late);
+    hold_equal(what);
 }
 
 int main(int argc, char **argv)
 {
     static const int sizes[] = { 8, 127 };
-    static const uint32_t serials[] = { 4294967000u, SHORT };
+    static const uint32_t serials[] = { 4294967000u, 1000 };
+    static const uint64_t clocks[] = { (1ull << 40) - 30000, 1735689599 }; /* in the year 36812, and the end of 2024 */
     struct sigaction action;
     struct asked a;
     (void)argv;
@@ -253,13 +289,15 @@ int main(int argc, char **argv)
     for (int i = 0; i < 4; i++) {
         int records = sizes[i % 2];
         first_serial = serials[i / 2];
+        T = clocks[i / 2];
         fresh(records);
         if (pyhtirso_check(proved.table, (size_t)(records + 1) * BLOCK))
             printf("NOT LAWFUL: the table of %d records\n", records), failed++;
-        printf("%d calls compared over a table of %d records, serials from %u\n", compare_ways(records), records, first_serial);
+        printf("%d calls compared over a table of %d records, serials from %u, T %llu\n", compare_ways(records), records, first_serial,
+               (unsigned long long)T);
     }
     if (argc == 1)
-        printf("\n| instructions of | proved | plain C | ratio |\n|---|---|---|---|\n");
+        printf("\n| instructions of | proved | plain C | ratio | plain C, whole loops | ratio |\n|---|---|---|---|---|---|\n");
     for (int i = 0; argc == 1 && i < 2; i++) {
         a = validating(sizes[i], "https%3A%2F%2Fgate.lan%2Fp", "", sizes[i], "ST-");
         measure("serviceValidate, accepted", &a);

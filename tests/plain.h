@@ -12,4 +12,7 @@ bool plain_answer(uint8_t *table, size_t table_len, const uint8_t *panels, size_
                   const uint8_t *random, size_t random_len, bool verdict, uint8_t *out, size_t out_len, uint8_t *cookie_out,
                   size_t cookie_out_len, uint64_t *outcome, size_t outcome_len);
 
+/* The same, made with WHOLE. */
+__typeof__(plain_answer) plain_whole;
+
 #endif

@@ -1,4 +1,4 @@
--- The user and the proxy list that the table gives are those of the line. Assumes nothing.
+-- The user, the sign-on time and the proxy list that the table gives are those of the line. Assumes nothing.
 use mathlib.Core.Path.{_≡_, refl, sym, ap, _∙_}
 use mathlib.Core.Bool.{true}
 use mathlib.Core.List.{List, _∷_}
@@ -53,6 +53,9 @@ module _ (L : Notebook) (A : List Slot) (n : ℕ) (S : Sim L A n) (slots : List 
   module _ (a : Slot) (u : Under A a) (live : L .clock < a .r .expiry) where
     pub user-ok : recAt (a .r .session) slots .text ≡ a .e .user
     user-ok = ap (λ (r : Rec). r .text) (rec (a .r .session)) ∙ sym (u .user-eq)
+
+    pub since-ok : recAt (a .r .session) slots .since ≡ a .e .since
+    since-ok = ap (λ (r : Rec). r .since) (rec (a .r .session)) ∙ sym (u .since-eq)
 
     pub chain-ok : (p : ℕ) → p ≡ upOf (a .r) → chainOf p slots ≡ a .e .chain
     chain-ok p e = rw e (chain-is (upOf (a .r)) (a .r .session) (a .e .chain) (omega (arith, u .within)) (u .line))

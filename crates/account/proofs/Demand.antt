@@ -26,7 +26,7 @@ use Rattle.account.proofs.Look.{recOf, Tied, seen}
 use Rattle.account.proofs.Reached.{RightLine, Owes, AllOwes}
 use Rattle.account.specs.Account.{issuesIn, acceptsIn, sumIn}
 use Rattle.account.proofs.Run.{life, started}
-use Rattle.account.proofs.Traced.{AllTraced, originIn, ticket-of, all-traced}
+use Rattle.account.proofs.Traced.{AllTraced, originIn, grantingIn, ticket-of, all-traced}
 use Rattle.account.proofs.Books.{claim, turn, turn-pays, turn-less, Owing, nil, just, pay, shrink, pay-win, pay-enter, re-wins, close-less, close-pays, wait-pays, raise-less, raise-pays, tally-same, tally-plus, anyFate, close-all, close-acc, close-accepted, raise-kind, just-one, isSpent, close-unspent, close-other, fates, held-total}
 
 -- Every acceptance and every success answer is right
@@ -36,7 +36,7 @@ right-origin v renew service x o e r = rw e (record { issued = refl; its-service
 
 -- the callback of a serial
 waiting-of : (start : ℕ) (older : List Item) → AllTraced start older (notebook start older .book) → (serial : ℕ) (x : Line) → look (isWaitingLine serial) (notebook start older .book) ≡ found x
-    → calledOf start older serial ≡ record { made = true; ticket = x .origin; iou = x .iou; user = x .user; chain = x .chain; url = x .text }
+    → calledOf start older serial ≡ grantingIn x
 waiting-of start older all serial x l =
     let s = seen (isWaitingLine serial) (notebook start older .book) x l in
     let w = both (eqb (x .kind) aWaiting) (eqb (x .ref) serial) (s .2) in
@@ -218,7 +218,7 @@ step-books start (Welcomed v renew ticket service said) older o all b =
 step-books start (CalledBack v renew ticket service url pgt iou serial) older o all b =
     let s = seen (isTicketLine ticket) (notebook start older .book) (o .ticket-line) (o .line) in
     let n : o .ticket-line .name ≡ ticket = its-name start older _ b ticket (o .ticket-line) (s .0) (s .1) (s .2) in
-    let x : Line = lineUnder 5 pgt serial url (o .ticket-line .chain) false (o .ticket-line .name) iou (notebook start older .clock) (o .ticket-line) in
+    let x : Line = lineUnder 5 pgt serial url (o .ticket-line .chain) (o .ticket-line .mark) (o .ticket-line .name) iou (notebook start older .clock) (o .ticket-line) in
     rw (o .line)
     (record {
       owing =

@@ -44,7 +44,7 @@ free-dead c r k = rw k
 -- what stands below a session
 pub under-of : (A : List Slot) (a : Slot) → Placed A a → 3 ≤ a .r .kind → Under A a
 under-of A a (login k s) h = absurd (omega arith)
-under-of A a (session k s n u t) h = absurd (omega arith)
+under-of A a (session k s n u v t) h = absurd (omega arith)
 under-of A a (below k u) h = u
 
 -- its session lives, and its parent, so a free slot is neither

@@ -1,6 +1,6 @@
 -- One thing said beside one edit of the table: each keeps the table at the trail. Assumes nothing.
 use mathlib.Core.Path.{_≡_, refl, ap, _∙_}
-use mathlib.Core.Bool.{Bool, true, false, not}
+use mathlib.Core.Bool.{Bool, true, false}
 use mathlib.Core.List.{List, [], _∷_}
 use Prim.Native.Nat.{ℕ, zero, suc, _+_, _≤_, _<_}
 use native.Mathlib.Omega.{arith}
@@ -20,6 +20,7 @@ use Rattle.account.specs.History.{Text}
 use Rattle.account.specs.Reading.{Item, Passed, Showed, Spent, Ended, Opened, Issued, Proxied, Burnt, Welcomed, CalledBack, Settled}
 use Rattle.account.specs.Notebook.{Line, Fate, burnt, accepted, spent, Notebook, isHeld, closeAll, isLine, isTicket, isTicketLine, isWaitingLine, note, notebook}
 use Rattle.account.specs.Truth.{clockOf, loginUntil, loginLive, spentLive}
+use Rattle.account.specs.Account.{one}
 use Rattle.account.proofs.Base.{Case, is, isnt, case, clash}
 use Rattle.account.proofs.Sim.{Slot, noSlot, on, Above, Up, upOf, Under, Sim}
 use Rattle.account.proofs.Edits.{alive-time, under-of, home-lives}
@@ -29,7 +30,7 @@ use Rattle.account.proofs.Sessions.{end-some, end-none, tied-raise}
 use Rattle.account.proofs.Making.{new-text, new-ref, tied-login, tied-session, session-source, under-source, tied-under}
 use Rattle.account.proofs.Reached.{RightLine, OwesSettle, Reached}
 use Rattle.account.proofs.Logins.{clock-told, all-logins}
-use Rattle.account.proofs.Chains.{user-ok, chain-ok, depth-ok, ticket-up, waiting-up}
+use Rattle.account.proofs.Chains.{user-ok, since-ok, chain-ok, depth-ok, ticket-up, waiting-up}
 
 -- a table as it was, put together again
 pub tied-same : (L : Notebook) (t : Table) → Tied L t → Tied L (remove 0 t)
@@ -102,7 +103,7 @@ module _ (start : ℕ) (h : List Item) (t : Table) (R : Reached start h t) where
 
   -- a service ticket under the session in slot s, which the cookie names
   pub reach-issue : Room t → (s : ℕ) (cookie : Text) → isNamed (t .clock) aSession cookie (recAt s (t .slots)) ≡ true
-      → (mark : ℕ) (service random : List ℕ) (signed : Bool) (lt : Text) → signed ≡ not (eqb mark 0) → (signed ≡ true → spentLive start h lt ≡ true)
+      → (mark : ℕ) (service random : List ℕ) (signed : Bool) (lt : Text) → mark ≡ one signed → (signed ≡ true → spentLive start h lt ≡ true)
       → Reached start (Issued cookie service (nameOf (newRec aService mark s s 0 service random t)) signed lt ∷ h) (add (newRec aService mark s s 0 service random t) t)
   unfolding notebook note newRec
   reach-issue m s cookie named mark service random signed lt marked live =
@@ -214,9 +215,13 @@ module _ (start : ℕ) (h : List Item) (t : Table) (R : Reached start h t) where
         let m : renew ≡ true → eqb (a .r .mark) 0 ≡ false = rw r at marked in
         record {
           text-is = g .text-eq ∙ (rw r at meant);
-          primary = λ x. g .mark-eq ∙ ap not (m x);
+          primary = λ x. marked-line (a .e .mark) (rw (g .mark-eq (omega (arith, high))) at (m x));
           allowed = λ x. (rw r at taken) (rw (g .kind-eq) at x);
         }
+      where
+        marked-line : (b : Bool) → eqb (one b) 0 ≡ false → b ≡ true
+        marked-line true z = refl
+        marked-line false z = absurd (clash refl z)
 
     -- the records of the table without it
     rec-after : (j : ℕ) → recAt j (putAt k freeRec (t .slots)) ≡ on (set (R .tied .A) k noSlot) j .r
@@ -237,6 +242,15 @@ module _ (start : ℕ) (h : List Item) (t : Table) (R : Reached start h t) where
         rw (rec-on L t (R .tied) k)
         (user-ok _ (set (R .tied .A) k noSlot) (R .tied .n) (sim-after accepted refl) (putAt k freeRec (t .slots)) rec-after a under-after (alive-time (L .clock) (a .r) (hits .live)))
 
+    pub since-told : recAt (recAt k (t .slots) .session) (putAt k freeRec (t .slots)) .since ≡ a .e .since
+    unfolding closeAll
+    since-told =
+        rw (rec-on L t (R .tied) k)
+        (since-ok _ (set (R .tied .A) k noSlot) (R .tied .n) (sim-after accepted refl) (putAt k freeRec (t .slots)) rec-after a under-after (alive-time (L .clock) (a .r) (hits .live)))
+
+    pub mark-told : recAt k (t .slots) .mark ≡ one (a .e .mark)
+    mark-told = rw (rec-on L t (R .tied) k) (R .tied .sim .good k (hits .live) .mark-eq (omega (arith, high)))
+
     pub chain-told : chainOf (proxyParent (recAt k (t .slots))) (putAt k freeRec (t .slots)) ≡ a .e .chain
     unfolding closeAll
     chain-told =
@@ -245,13 +259,13 @@ module _ (start : ℕ) (h : List Item) (t : Table) (R : Reached start h t) where
         (proxyParent (a .r)) (ticket-up (a .r) is-ticket))
 
     pub reach-welcome : (v : Validator) (renew : Bool) (service said : Text) → RightLine v renew service (a .e)
-        → said ≡ if (isPlain v) (ascii "yes\n") (successText (a .e .user) [] (chainOf (proxyParent (recAt k (t .slots))) (putAt k freeRec (t .slots))))
+        → said ≡ if (isPlain v) (ascii "yes\n") (successText (a .e .user) (a .e .since) (recAt k (t .slots) .mark) [] (chainOf (proxyParent (recAt k (t .slots))) (putAt k freeRec (t .slots))))
         → Reached start (Welcomed v renew ticket service said ∷ h) (remove (ticketSlot ticket t) t)
     unfolding notebook note
     reach-welcome v renew service said right bytes =
         record {
           tied = removed accepted refl .0;
-          paid = (record { ticket-line = a .e; line = hits .line; right = right; bytes = rw chain-told at bytes }, R .paid);
+          paid = (record { ticket-line = a .e; line = hits .line; right = right; bytes = rw (chain-told, mark-told) at bytes }, R .paid);
         }
 
     abbrev t′ : Table
@@ -259,7 +273,7 @@ module _ (start : ℕ) (h : List Item) (t : Table) (R : Reached start h t) where
 
     abbrev waiting : List ℕ → List ℕ → Rec
     waiting url random =
-        newRec aWaiting 0 (proxyParent (recAt k (t .slots))) (recAt k (t .slots) .session) (recAt (proxyParent (recAt k (t .slots))) (t′ .slots) .depth + 1) url random t′
+        newRec aWaiting (recAt k (t .slots) .mark) (proxyParent (recAt k (t .slots))) (recAt k (t .slots) .session) (recAt (proxyParent (recAt k (t .slots))) (t′ .slots) .depth + 1) url random t′
 
     pub reach-callback : Room t′ → (v : Validator) (renew : Bool) (service url random : Text) → RightLine v renew service (a .e)
         → Reached start (CalledBack v renew ticket service url (nameOf (waiting url random)) (iouText (waiting url random .iou)) (waiting url random .serial) ∷ h) (add (waiting url random) t′)
@@ -275,8 +289,8 @@ module _ (start : ℕ) (h : List Item) (t : Table) (R : Reached start h t) where
           tied =
               rw (hits .line, rec-on L t w k)
               (tied-under (closeAll accepted (isTicketLine ticket) L) t′ (d .0) m (a .r .session) (home-lives (L .clock) (d .0 .A) a u live) (a .e) (under-source (d .0 .A) a u)
-              aWaiting 0 (proxyParent (a .r)) (recAt (proxyParent (a .r)) (t′ .slots) .depth + 1) url random (a .e .chain) false (t .next) (a .e .name) (iouText (iouFrom aWaiting random))
-              (omega arith) (omega arith) (omega arith) refl (λ z. refl) (omega arith) (λ z. refl) (rw up (u .line))
+              aWaiting (a .r .mark) (proxyParent (a .r)) (recAt (proxyParent (a .r)) (t′ .slots) .depth + 1) url random (a .e .chain) (a .e .mark) (t .next) (a .e .name) (iouText (iouFrom aWaiting random))
+              (omega arith) (omega arith) (omega arith) (w .sim .good k (hits .live) .mark-eq (omega (arith, high))) (λ z. refl) (omega arith) (λ z. refl) (rw up (u .line))
               (λ z. rw up (depth-ok _ (d .0 .A) (d .0 .n) (d .0 .sim) (t′ .slots) rec a u live (upOf (a .r)) refl)));
           paid = (
             record {
@@ -308,16 +322,18 @@ module _ (start : ℕ) (h : List Item) (t : Table) (R : Reached start h t) where
     under = under-of (R .tied .A) b (R .tied .sim .good j (waits .live) .placed) (omega (arith, is-waiting))
 
     pub settle-owes : (outcome : Bool) (said : Text)
-        → said ≡ successText (recAt (recAt j (t .slots) .session) (t .slots) .text) (if outcome (iouText (recAt j (t .slots) .iou)) []) (chainOf (recAt j (t .slots) .parent) (t .slots))
+        → said ≡ successText (recAt (recAt j (t .slots) .session) (t .slots) .text) (recAt (recAt j (t .slots) .session) (t .slots) .since) (recAt j (t .slots) .mark) (if outcome (iouText (recAt j (t .slots) .iou)) []) (chainOf (recAt j (t .slots) .parent) (t .slots))
         → OwesSettle start h serial outcome said
     settle-owes outcome said bytes =
         let w = R .tied in
         let r = rec-on L t w j in
         let live : L .clock < b .r .expiry = alive-time (L .clock) (b .r) (waits .live) in
         let user = user-ok L (w .A) (w .n) (w .sim) (t .slots) (rec-on L t w) b under live in
+        let since = since-ok L (w .A) (w .n) (w .sim) (t .slots) (rec-on L t w) b under live in
+        let mark : b .r .mark ≡ one (b .e .mark) = w .sim .good j (waits .live) .mark-eq (omega (arith, is-waiting)) in
         let chain = chain-ok L (w .A) (w .n) (w .sim) (t .slots) (rec-on L t w) b under live (b .r .parent) (waiting-up (b .r) is-waiting) in
         let iou : b .e .iou ≡ iouText (b .r .iou) = w .sim .good j (waits .live) .iou-eq is-waiting in
-        record { waiting-line = b .e; line = waits .line; bytes = rw (r, user, chain, ← iou) at bytes }
+        record { waiting-line = b .e; line = waits .line; bytes = rw (r, user, since, mark, chain, ← iou) at bytes }
 
     pub reach-granted : (said : Text) → OwesSettle start h serial true said
         → Reached start (Settled serial true said ∷ h) (put (waitingSlot serial t) (granted (recAt (waitingSlot serial t) (t .slots)) (t .slots)) t)

@@ -1,5 +1,5 @@
 -- login by GET: what its answer says is what it did to the table. Assumes nothing.
-use mathlib.Core.Path.{_≡_, refl}
+use mathlib.Core.Path.{_≡_, refl, sym, subst}
 use mathlib.Core.Bool.{true, false, not, _&&_}
 use mathlib.Core.List.{List, [], _∷_}
 use Prim.Native.Nat.{ℕ, _≤_}
@@ -18,10 +18,12 @@ use Rattle.protocol.specs.declared.Path.the-variants as path
 use Rattle.protocol.proofs.Laws.{both}
 use Rattle.protocol.proofs.Added.{Room, room-one}
 use Rattle.account.specs.History.{Text, Asked}
+use Rattle.account.specs.Clauses.{keptMark, standing}
 use Rattle.account.specs.Reading.{Item, Showed, Issued, isForm, readLoginGet}
 use Rattle.account.proofs.Base.{clash, fork}
 use Rattle.account.proofs.Reached.{Reached}
 use Rattle.account.proofs.Items.{reach-show, reach-issue}
+use Rattle.account.proofs.Rules.{unmarked}
 use Rattle.account.proofs.Texts.{letters, name-letters, name-some, ticket-read, form-200, page-400, page-403, page-503, page-in}
 use Rattle.account.proofs.Counts.{Ok, ok-by, slot-named}
 
@@ -36,6 +38,11 @@ new-letters kind mark parent session depth text random t l h = name-letters (new
 pub new-some : (kind mark parent session depth : ℕ) (text random : List ℕ) (t : Table) → 1 ≤ kind → kind ≤ 6 → isEmpty (nameOf (newRec kind mark parent session depth text random t)) ≡ false
 unfolding newRec
 new-some kind mark parent session depth text random t l h = name-some (newRec kind mark parent session depth text random t) l h
+
+-- the clause of a live session is protocol's
+signed-is : (s : ℕ) (service random : Text) (t : Table) → signedOn s service random t ≡ standing s service random t
+unfolding signedOn standing keptMark
+signed-is s service random t = refl
 
 module _ (start : ℕ) (h : List Item) (t : Table) (R : Reached start h t) (a : Asked) (q : Text) where
   abbrev G : Step → Type 0
@@ -73,25 +80,28 @@ module _ (start : ℕ) (h : List Item) (t : Table) (R : Reached start h t) (a : 
   unfolding replyText replyAnswer readLoginGet
   ticket-said ticket e = rw (e, ticket-read (fromQuery "service" q) ticket e)
 
-  ticket-ok : eqb (sessionOf (a .cookie) t) 0 ≡ false → Room t → G (ticketStep 0 (sessionOf (a .cookie) t) (fromQuery "service" q) (a .random) [] t)
+  ticket-ok : eqb (sessionOf (a .cookie) t) 0 ≡ false → Room t → G (ticketStep keptMark (sessionOf (a .cookie) t) (fromQuery "service" q) (a .random) [] t)
   unfolding ticketStep ticketWith replyAnswer
   ticket-ok e m =
       let s : ℕ = sessionOf (a .cookie) t in
-      let some = new-some aService 0 s s 0 (fromQuery "service" q) (a .random) t (omega arith) (omega arith) in
-      ok-by start h path.Login _ (Issued (a .cookie) (fromQuery "service" q) (nameOf (newRec aService 0 s s 0 (fromQuery "service" q) (a .random) t)) false [] ∷ []) _
-      (ticket-said (nameOf (newRec aService 0 s s 0 (fromQuery "service" q) (a .random) t)) some)
+      let some = new-some aService keptMark s s 0 (fromQuery "service" q) (a .random) t (omega arith) (omega arith) in
+      ok-by start h path.Login _ (Issued (a .cookie) (fromQuery "service" q) (nameOf (newRec aService keptMark s s 0 (fromQuery "service" q) (a .random) t)) false [] ∷ []) _
+      (ticket-said (nameOf (newRec aService keptMark s s 0 (fromQuery "service" q) (a .random) t)) some)
       (record {
         reached =
-            reach-issue start h t R m s (a .cookie) (slot-named aSession (a .cookie) t e) 0 (fromQuery "service" q) (a .random) false [] refl (λ z. absurd (clash z refl));
+            reach-issue start h t R m s (a .cookie) (slot-named aSession (a .cookie) t e) keptMark (fromQuery "service" q) (a .random) false [] unmarked (λ z. absurd (clash z refl));
         issues = rw some;
         accepts-eq = refl;
       })
 
-  signed-ok : eqb (sessionOf (a .cookie) t) 0 ≡ false → G (signedOn (sessionOf (a .cookie) t) (fromQuery "service" q) (a .random) t)
-  unfolding signedOn
-  signed-ok e =
+  standing-ok : eqb (sessionOf (a .cookie) t) 0 ≡ false → G (standing (sessionOf (a .cookie) t) (fromQuery "service" q) (a .random) t)
+  unfolding standing
+  standing-ok e =
       fork G (isEmpty (fromQuery "service" q)) (λ z. quiet-in)
       (λ z. fork G (roomFor 1 t) (λ r. ticket-ok e (room-one t r)) (λ r. quiet-page 503 page-503))
+
+  signed-ok : eqb (sessionOf (a .cookie) t) 0 ≡ false → G (signedOn (sessionOf (a .cookie) t) (fromQuery "service" q) (a .random) t)
+  signed-ok e = subst G (sym (signed-is (sessionOf (a .cookie) t) (fromQuery "service" q) (a .random) t)) (standing-ok e)
 
   pub login-get-ok : G (loginGet q (bring a) t)
   unfolding loginGet loginPage

@@ -15,7 +15,7 @@ use Rattle.protocol.specs.Steps.{Step, step, remove, sessionOf, unknownService,
 use Rattle.protocol.specs.declared.Path.the-variants as path
 use Rattle.protocol.proofs.Laws.{same-refl}
 use Rattle.account.specs.History.{Text, Asked}
-use Rattle.account.specs.Clauses.{changedAt, admitting}
+use Rattle.account.specs.Clauses.{keptAt, changedAt, admitting}
 use Rattle.account.specs.Reading.{Item, Spent, readLoginPost, readPost}
 use Rattle.account.specs.Truth.{spentLive}
 use Rattle.account.proofs.Base.{clash, fork}
@@ -29,7 +29,7 @@ use Rattle.account.proofs.SignOn.{P, quiet-page, form-ok, admitting-ok}
 
 -- the clause of accepted credentials is protocol's
 accepted-is : (s : ℕ) (user service random : Text) (t : Table) → accepted s user service random t ≡ admitting s user service random t
-unfolding accepted admitting changedAt
+unfolding accepted admitting keptAt changedAt
 accepted-is s user service random t = refl
 
 -- the login ticket is spent first

@@ -128,7 +128,7 @@ step-logins start (Burnt ticket) older o all = close-logins start _ _ _ refl _ (
 step-logins start (Welcomed v renew ticket service said) older o all = close-logins start _ _ _ refl _ (quiet-logins start (Welcomed v renew ticket service said) older _ refl refl all)
 step-logins start (CalledBack v renew ticket service url pgt iou serial) older o all =
     under-logins start (CalledBack v renew ticket service url pgt iou serial ∷ older) (look (isTicketLine ticket) (notebook start older .book))
-    (λ (x : Line). lineUnder aWaiting pgt serial url (x .chain) false (x .name) iou (notebook start older .clock) x) (closeAll accepted (isTicketLine ticket) (notebook start older)) (λ s. refl)
+    (λ (x : Line). lineUnder aWaiting pgt serial url (x .chain) (x .mark) (x .name) iou (notebook start older .clock) x) (closeAll accepted (isTicketLine ticket) (notebook start older)) (λ s. refl)
     (close-logins start _ accepted (isTicketLine ticket) refl _ (quiet-logins start (CalledBack v renew ticket service url pgt iou serial) older _ refl refl all))
 step-logins start (Settled serial true said) older o all = raise-logins start _ _ _ (quiet-logins start (Settled serial true said) older _ refl refl all)
 step-logins start (Settled serial false said) older o all = close-logins start _ _ _ refl _ (quiet-logins start (Settled serial false said) older _ refl refl all)

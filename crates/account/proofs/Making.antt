@@ -1,20 +1,21 @@
 -- New records: the line that the notebook enters stands for the record that the table adds. Assumes nothing.
 use mathlib.Core.Path.{_≡_, refl, sym, _∙_}
 use mathlib.Core.Logic.{_≢_}
-use mathlib.Core.Bool.{Bool, true, false, not}
+use mathlib.Core.Bool.{Bool, true, false}
 use mathlib.Core.List.{List, [], List·Memᴰ}
 use Prim.Native.Nat.{ℕ, suc, _+_, _≤_, min}
 use native.Mathlib.Omega.{arith}
 use borrow.Author.Tests.{ne-eqb}
 use lib.Dec.{eqb}
 use Rattle.protocol.specs.Bytes.{if}
-use Rattle.protocol.specs.Tickets.{iouText, iouFrom, lifetime, aLogin, aSession}
+use Rattle.protocol.specs.Tickets.{iouText, iouFrom, sinceFrom, lifetime, aLogin, aSession}
 use Rattle.protocol.specs.Records.{Rec, nameOf}
 use Rattle.protocol.specs.Table.{Table}
 use Rattle.protocol.specs.Steps.{expiryFor, newRec, add}
 use Rattle.protocol.proofs.Added.{Room}
 use Rattle.account.specs.History.{Text}
 use Rattle.account.specs.Notebook.{Line, Notebook, enter, loginLine, sessionLine, lineUnder}
+use Rattle.account.specs.Account.{one}
 use Rattle.account.proofs.Base.{clash, name-serial}
 use Rattle.account.proofs.Sim.{Slot, on, lives, Up, deep, Under, Placed, login, session, below, Good}
 use Rattle.account.proofs.Edits.{alive-time, alive-is}
@@ -60,7 +61,7 @@ tied-login L t w m random =
       iou-eq = λ x. absurd (omega arith);
       expiry-eq = rw (w .clock-is);
       text-eq = refl;
-      mark-eq = refl;
+      mark-eq = λ x. refl;
       fate-eq = refl;
       young = omega arith;
       placed = login refl refl;
@@ -69,7 +70,7 @@ tied-login L t w m random =
 -- a session
 pub tied-session : (L : Notebook) (t : Table) (w : Tied L t) → Room t → (user random : List ℕ)
     → Tied (enter (sessionLine (nameOf (newRec aSession 0 0 0 0 user random t)) user (L .clock)) L) (add (newRec aSession 0 0 0 0 user random t) t)
-unfolding newRec expiryFor
+unfolding newRec expiryFor sinceFrom
 tied-session L t w m user random =
     let i = serial-is L t w (m .serial) in
     let r : Rec = newRec aSession 0 0 0 0 user random t in
@@ -83,10 +84,10 @@ tied-session L t w m user random =
       iou-eq = λ x. absurd (omega arith);
       expiry-eq = rw (w .clock-is);
       text-eq = refl;
-      mark-eq = refl;
+      mark-eq = λ x. refl;
       fate-eq = refl;
       young = omega arith;
-      placed = session refl refl refl refl (rw (w .clock-is));
+      placed = session refl refl refl refl (rw (w .clock-is)) (rw (w .clock-is));
     })
 
 -- what a new line takes from the line of its session, or of a ticket or grant under it
@@ -94,6 +95,7 @@ pub record Source (A : List Slot) (s : ℕ) (src : Line) : Type 0 where
   pub home : on A s .r .kind ≡ 2
   pub sess-eq : src .session ≡ nameOf (on A s .r)
   pub user-eq : src .user ≡ on A s .r .text
+  pub since-eq : src .since ≡ on A s .r .since
   pub until-eq : src .until ≡ on A s .r .expiry
 
 pub session-source : (A : List Slot) (n s : ℕ) → Good A n (on A s) → on A s .r .kind ≡ 2 → Source A s (on A s .e)
@@ -101,16 +103,16 @@ session-source A n s g k = go (g .placed)
   where
     go : Placed A (on A s) → Source A s (on A s .e)
     go (login x _) = absurd (omega arith)
-    go (session x y n u v) = record { home = k; sess-eq = n; user-eq = u; until-eq = v }
+    go (session x y n u b v) = record { home = k; sess-eq = n; user-eq = u; since-eq = b; until-eq = v }
     go (below x u) = absurd (omega arith)
 
 pub under-source : (A : List Slot) (a : Slot) → Under A a → Source A (a .r .session) (a .e)
-under-source A a u = record { home = u .home; sess-eq = u .sess-eq; user-eq = u .user-eq; until-eq = u .until-eq }
+under-source A a u = record { home = u .home; sess-eq = u .sess-eq; user-eq = u .user-eq; since-eq = u .since-eq; until-eq = u .until-eq }
 
 -- a ticket or a waiting grant under the session in slot s
 module _ (L : Notebook) (t : Table) (w : Tied L t) (m : Room t) (s : ℕ) (ls : lives (L .clock) (w .A) s ≡ true) (src : Line) (so : Source (w .A) s src)
     (kind mark parent depth : ℕ) (text random : List ℕ) (chain : List Text) (mk : Bool) (ref : ℕ) (origin iou : Text)
-    (lo : 3 ≤ kind) (hi : kind ≤ 5) (lasts : 1 ≤ lifetime kind) (marked : mk ≡ not (eqb mark 0))
+    (lo : 3 ≤ kind) (hi : kind ≤ 5) (lasts : 1 ≤ lifetime kind) (marked : mark ≡ one mk)
     (numbered : kind ≡ 5 → ref ≡ t .next) (small : ref ≤ t .next) (owes : kind ≡ 5 → iou ≡ iouText (iouFrom kind random))
     (line : Up (w .A) (if (eqb kind 3) 0 parent) s chain) (falls : 5 ≤ kind → depth ≡ suc (deep (w .A) (if (eqb kind 3) 0 parent))) where
   some-session : eqb s 0 ≡ false
@@ -132,7 +134,7 @@ module _ (L : Notebook) (t : Table) (w : Tied L t) (m : Room t) (s : ℕ) (ls : 
         iou-eq = owes;
         expiry-eq = rw (expiry-is, so .until-eq);
         text-eq = refl;
-        mark-eq = marked;
+        mark-eq = λ x. marked;
         fate-eq = refl;
         young = omega arith;
         placed =
@@ -141,6 +143,7 @@ module _ (L : Notebook) (t : Table) (w : Tied L t) (m : Room t) (s : ℕ) (ls : 
               home = so .home;
               sess-eq = so .sess-eq;
               user-eq = so .user-eq;
+              since-eq = so .since-eq;
               until-eq = so .until-eq;
               within = omega (arith, expiry-is);
               lasts = λ x. absurd (omega arith);

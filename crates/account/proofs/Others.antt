@@ -20,7 +20,7 @@ use Rattle.protocol.specs.declared.Path.the-variants as path
 use Rattle.protocol.specs.declared.Validator.{Validator}
 use Rattle.protocol.proofs.Added.{Room, room-one}
 use Rattle.account.specs.History.{Text, Asked, Told}
-use Rattle.account.specs.Clauses.{outOfPlace, unsigned, meant, burntAt, userOf, accepting, judging, raisedAt, settling}
+use Rattle.account.specs.Clauses.{outOfPlace, unsigned, meant, burntAt, userOf, sinceOf, accepting, judging, raisedAt, settling}
 use Rattle.account.specs.Reading.{Item, Ended, Proxied, badRequest, readValidator, readProxy, readFinish, readGet, readPost, readAsked}
 use Rattle.account.proofs.Base.{fork}
 use Rattle.account.proofs.Reached.{Reached}
@@ -83,11 +83,11 @@ module _ (start : ℕ) (h : List Item) (t : Table) (R : Reached start h t) (a : 
 
 -- the clauses of validators and finish are protocol's
 presented-is : (v : Validator) (k : ℕ) (q : Text) (g : Brought) (t : Table) → presented v k q g t ≡ judging v k q g t
-unfolding presented judgeTicket acceptTicket judging accepting outOfPlace unsigned meant burntAt userOf
+unfolding presented judgeTicket acceptTicket judging accepting outOfPlace unsigned meant burntAt userOf sinceOf
 presented-is v k q g t = refl
 
 finish-is : (k : ℕ) (r : Rec) (outcome : Bool) (t : Table) → finishAt k r outcome t ≡ settling k r outcome t
-unfolding finishAt finished settling raisedAt userOf
+unfolding finishAt finished settling raisedAt userOf sinceOf
 finish-is k r outcome t = refl
 
 -- the validators

@@ -14,6 +14,7 @@ use Rattle.account.specs.History.{Text}
 use Rattle.account.specs.Reading.{Item, Passed, Showed, Spent, Ended, Opened, Issued, Proxied, Burnt, Welcomed, CalledBack, Settled}
 use Rattle.account.specs.Notebook.{Line, found, look, isLine, isTicketLine, isWaitingLine, notebook}
 use Rattle.account.specs.Truth.{spentLive}
+use Rattle.account.specs.Account.{one}
 use Rattle.account.proofs.Look.{Tied}
 use Rattle.account.proofs.Making.{New, NewRef}
 
@@ -40,7 +41,7 @@ pub record OwesWelcome (start : ℕ) (older : List Item) (v : Validator) (renew 
   pub ticket-line : Line
   pub line : look (isTicketLine ticket) (notebook start older .book) ≡ found ticket-line
   pub right : RightLine v renew service ticket-line
-  pub bytes : said ≡ if (isPlain v) (ascii "yes\n") (successText (ticket-line .user) [] (ticket-line .chain))
+  pub bytes : said ≡ if (isPlain v) (ascii "yes\n") (successText (ticket-line .user) (ticket-line .since) (one (ticket-line .mark)) [] (ticket-line .chain))
 
 pub record OwesCallback (start : ℕ) (older : List Item) (v : Validator) (renew : Bool) (ticket service pgt : Text) (serial : ℕ) : Type 0 where
   pub ticket-line : Line
@@ -52,7 +53,7 @@ pub record OwesCallback (start : ℕ) (older : List Item) (v : Validator) (renew
 pub record OwesSettle (start : ℕ) (older : List Item) (serial : ℕ) (outcome : Bool) (said : Text) : Type 0 where
   pub waiting-line : Line
   pub line : look (isWaitingLine serial) (notebook start older .book) ≡ found waiting-line
-  pub bytes : said ≡ successText (waiting-line .user) (if outcome (waiting-line .iou) []) (waiting-line .chain)
+  pub bytes : said ≡ successText (waiting-line .user) (waiting-line .since) (one (waiting-line .mark)) (if outcome (waiting-line .iou) []) (waiting-line .chain)
 
 abbrev pub Owes : ℕ → Item → List Item → Type 0
 Owes start (Passed time) older = Unit {0}

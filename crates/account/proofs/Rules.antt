@@ -14,12 +14,13 @@ use Rattle.protocol.specs.declared.Validator.{Validator}
 use Rattle.protocol.specs.declared.Validator.the-variants as validator
 use Rattle.protocol.proofs.Laws.{same-eq}
 use Rattle.account.specs.History.{Text}
-use Rattle.account.specs.Clauses.{outOfPlace, unsigned, meant, burntAt, userOf, raisedAt, changedAt}
+use Rattle.account.specs.Clauses.{outOfPlace, unsigned, meant, burntAt, userOf, sinceOf, raisedAt, keptMark, keptAt, changedAt}
 use Rattle.account.specs.Reading.{Item, Ended, Burnt, Settled}
+use Rattle.account.specs.Account.{one}
 use Rattle.account.proofs.Base.{clash}
 use Rattle.account.proofs.Sim.{on}
 use Rattle.account.proofs.Reached.{Reached, OwesSettle}
-use Rattle.account.proofs.Items.{reach-burn, reach-end, reach-granted, welcome-is, settle-owes}
+use Rattle.account.proofs.Items.{reach-burn, reach-end, reach-granted, welcome-is, since-told, settle-owes}
 
 -- a proxy ticket that passes (3) is shown where proxy tickets are taken
 pub taken : (v : Validator) (r : Rec) → outOfPlace v r ≡ false → eqb (r .kind) aProxy ≡ true → takesProxies v ≡ true
@@ -44,7 +45,17 @@ pub reach-changed : (start : ℕ) (h : List Item) (t : Table) → Reached start 
 unfolding changedAt
 reach-changed start h t R cookie e = reach-end start h t R cookie e
 
--- a ticket that is shown and not accepted is burnt, and a success names the line's user
+-- a ticket of a call without credentials has no mark
+pub unmarked : keptMark ≡ one false
+unfolding keptMark
+unmarked = refl
+
+-- a session that is kept is as it was opened
+pub kept-whole : (s : ℕ) (t : Table) → keptAt s t ≡ t
+unfolding keptAt
+kept-whole s t = refl
+
+-- a ticket that is shown and not accepted is burnt, and a success names the line's user and sign-on time
 module _ (start : ℕ) (h : List Item) (t : Table) (R : Reached start h t) (ticket : Text) (e : eqb (ticketSlot ticket t) 0 ≡ false) where
   pub reach-burnt : Reached start (Burnt ticket ∷ h) (burntAt (ticketSlot ticket t) t)
   unfolding burntAt
@@ -54,12 +65,16 @@ module _ (start : ℕ) (h : List Item) (t : Table) (R : Reached start h t) (tick
   unfolding userOf
   names-user = welcome-is start h t R ticket e
 
--- a waiting grant that is settled waits no more, and the answer names its user
+  pub names-since : sinceOf (recAt (ticketSlot ticket t) (t .slots)) (remove (ticketSlot ticket t) t) ≡ on (R .tied .A) (ticketSlot ticket t) .e .since
+  unfolding sinceOf
+  names-since = since-told start h t R ticket e
+
+-- a waiting grant that is settled waits no more, and the answer names its user and sign-on time
 module _ (start : ℕ) (h : List Item) (t : Table) (R : Reached start h t) (serial : ℕ) (e : eqb (waitingSlot serial t) 0 ≡ false) where
   pub settled-owes : (outcome : Bool) (said : Text)
-      → said ≡ successText (userOf (recAt (waitingSlot serial t) (t .slots)) t) (if outcome (iouText (recAt (waitingSlot serial t) (t .slots) .iou)) []) (chainOf (recAt (waitingSlot serial t) (t .slots) .parent) (t .slots))
+      → said ≡ successText (userOf (recAt (waitingSlot serial t) (t .slots)) t) (sinceOf (recAt (waitingSlot serial t) (t .slots)) t) (recAt (waitingSlot serial t) (t .slots) .mark) (if outcome (iouText (recAt (waitingSlot serial t) (t .slots) .iou)) []) (chainOf (recAt (waitingSlot serial t) (t .slots) .parent) (t .slots))
       → OwesSettle start h serial outcome said
-  unfolding userOf
+  unfolding userOf sinceOf
   settled-owes outcome said bytes = settle-owes start h t R serial e outcome said bytes
 
   pub reach-raised : (said : Text) → OwesSettle start h serial true said → Reached start (Settled serial true said ∷ h) (raisedAt (waitingSlot serial t) (recAt (waitingSlot serial t) (t .slots)) t)

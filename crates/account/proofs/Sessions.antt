@@ -44,7 +44,7 @@ end-slots s slots A e = ap (λ (r : Rec). r ∷ map (endRec s) slots) (sym (if-s
 -- a session's own record names no session
 session-free : (A : List Slot) (a : Slot) → Placed A a → a .r .kind ≡ 2 → a .r .session ≡ 0
 session-free A a (login k s) h = absurd (omega arith)
-session-free A a (session k s n u t) h = s
+session-free A a (session k s n u v t) h = s
 session-free A a (below k u) h = absurd (omega arith)
 
 or-false : (a b : Bool) → (a || b) ≡ false → (a ≡ false) × (b ≡ false)
@@ -111,7 +111,7 @@ module _ (L : Notebook) (t : Table) (w : Tied L t) (s : ℕ) (ls : lives (L .clo
 
       go : Placed (w .A) (on (w .A) i) → (not (eqb (on (w .A) i .r .kind) aLogin) && same (on (w .A) i .e .session) (nameOf (on (w .A) s .r))) ≡ (eqb i s || eqb (on (w .A) i .r .session) s)
       go (login k x) = rw (k, x, zero-other, other-slot (λ e. omega arith))
-      go (session k x n u v) = rw (k, x, zero-other, n, sessions i l) (or-none (eqb i s))
+      go (session k x n u b v) = rw (k, x, zero-other, n, sessions i l) (or-none (eqb i s))
         where
           or-none : (b : Bool) → b ≡ (b || false)
           or-none true = refl
@@ -173,7 +173,7 @@ module _ (L : Notebook) (t : Table) (w : Tied L t) (cookie : Text) where
         where
           go : Placed (w .A) (on (w .A) i) → (not (eqb (on (w .A) i .r .kind) aLogin) && same (on (w .A) i .e .session) cookie) ≡ false
           go (login k x) = rw k
-          go (session k x n u v) = rw (k, n, unnamed i l k)
+          go (session k x n u b v) = rw (k, n, unnamed i l k)
           go (below k u) =
               let z : eqb (on (w .A) i .r .kind) aLogin ≡ false = ne-eqb (on (w .A) i .r .kind) 1 (λ e. omega arith) in
               rw (z, u .sess-eq, unnamed (on (w .A) i .r .session) (home-lives (L .clock) (w .A) (on (w .A) i) u (alive-time (L .clock) (on (w .A) i .r) l)) (u .home))
@@ -192,7 +192,7 @@ raised : List Slot → Rec → Rec
 raised A r =
     record {
       kind = aGrant;
-      mark = r .mark;
+      mark = 0;
       parent = r .parent;
       session = r .session;
       depth = r .depth;
@@ -201,6 +201,7 @@ raised A r =
       secret = r .secret;
       text = r .text;
       iou = zeros 16;
+      since = r .since;
     }
 
 raised-is : (L : Notebook) (t : Table) (w : Tied L t) (k : ℕ) → granted (recAt k (t .slots)) (t .slots) ≡ raised (w .A) (on (w .A) k .r)
@@ -225,6 +226,7 @@ module _ (A : List Slot) (n : ℕ) (a : Slot) (g : Good A n a) (k : a .r .kind �
         home = u .home;
         sess-eq = u .sess-eq;
         user-eq = u .user-eq;
+        since-eq = u .since-eq;
         until-eq = u .until-eq;
         within = omega arith;
         lasts = λ x. refl;
@@ -243,7 +245,7 @@ module _ (A : List Slot) (n : ℕ) (a : Slot) (g : Good A n a) (k : a .r .kind �
         iou-eq = λ x. absurd (omega arith);
         expiry-eq = waits-under .until-eq;
         text-eq = g .text-eq;
-        mark-eq = g .mark-eq;
+        mark-eq = λ x. absurd (omega arith);
         fate-eq = g .fate-eq;
         young = g .young;
         placed = below (omega arith) raised-under;

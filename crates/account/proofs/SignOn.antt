@@ -19,13 +19,13 @@ use Rattle.protocol.proofs.Kept.{put-same}
 use Rattle.protocol.proofs.Added.{Room, room-one}
 use Rattle.protocol.proofs.StepSound.{room-less, room-after}
 use Rattle.account.specs.History.{Text, Asked}
-use Rattle.account.specs.Clauses.{changedAt, admitting}
+use Rattle.account.specs.Clauses.{keptAt, changedAt, admitting}
 use Rattle.account.specs.Reading.{Item, Showed, Ended, Opened, Issued, isForm, readSession, cookieAfter, readLoginPost}
 use Rattle.account.specs.Truth.{spentLive}
 use Rattle.account.proofs.Base.{clash, fork}
 use Rattle.account.proofs.Reached.{Reached}
 use Rattle.account.proofs.Items.{reach-show, reach-unended, reach-open, reach-issue}
-use Rattle.account.proofs.Rules.{reach-changed}
+use Rattle.account.proofs.Rules.{kept-whole, reach-changed}
 use Rattle.account.proofs.Texts.{letters, ticket-read, form-401, page-503, page-in}
 use Rattle.account.proofs.Counts.{Ok, ok-by, slot-named}
 use Rattle.account.specs.Account.{issuesIn, acceptsIn, sumIn}
@@ -158,12 +158,13 @@ module _ (start : ℕ) (h : List Item) (a : Asked) where
     abbrev pub user : Text
     user = fromBody "username" (a .body)
 
-    kept-ok : eqb (sessionOf (a .cookie) t) 0 ≡ false → P (issueAll true false (sessionOf (a .cookie) t) user service (a .random) t)
+    kept-ok : eqb (sessionOf (a .cookie) t) 0 ≡ false → P (issueAll true false (sessionOf (a .cookie) t) user service (a .random) (keptAt (sessionOf (a .cookie) t) t))
     unfolding issueAll needs readSession
     kept-ok e =
-        fork P (roomFor (needs true service) t)
+        rw (kept-whole (sessionOf (a .cookie) t) t)
+        (fork P (roomFor (needs true service) t)
         (λ r. admitted-ok t (sessionOf (a .cookie) t) [] R (slot-named aSession (a .cookie) t e) yes-said live (λ z. room-one t (rw z at r)))
-        (λ r. refused-ok t false R)
+        (λ r. refused-ok t false R))
 
     none-ok : eqb (sessionOf (a .cookie) t) 0 ≡ true → P (issueAll false false (sessionOf (a .cookie) t) user service (a .random) t)
     unfolding issueAll readSession

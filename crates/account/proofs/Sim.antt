@@ -11,6 +11,7 @@ use Rattle.protocol.specs.Tickets.{ticketText, iouText}
 use Rattle.protocol.specs.Records.{Rec, freeRec, nameOf}
 use Rattle.account.specs.History.{Text}
 use Rattle.account.specs.Notebook.{held, Line, Notebook, isHeld}
+use Rattle.account.specs.Account.{one}
 use Rattle.account.proofs.Base.{Case, is, isnt, case, clash, when, sum}
 
 pub record Slot : Type 0 where
@@ -18,7 +19,7 @@ pub record Slot : Type 0 where
   pub e : Line
 
 abbrev pub noLine : Line
-noLine = record { kind = 0; name = []; ref = 0; expiry = 0; session = []; until = 0; user = []; text = []; chain = []; mark = false; origin = []; iou = []; fate = held }
+noLine = record { kind = 0; name = []; ref = 0; expiry = 0; session = []; until = 0; user = []; since = 0; text = []; chain = []; mark = false; origin = []; iou = []; fate = held }
 
 abbrev pub noSlot : Slot
 noSlot = record { r = freeRec; e = noLine }
@@ -70,6 +71,7 @@ pub record Under (A : List Slot) (a : Slot) : Type 0 where
   pub home : on A (a .r .session) .r .kind ≡ 2
   pub sess-eq : a .e .session ≡ nameOf (on A (a .r .session) .r)
   pub user-eq : a .e .user ≡ on A (a .r .session) .r .text
+  pub since-eq : a .e .since ≡ on A (a .r .session) .r .since
   pub until-eq : a .e .until ≡ on A (a .r .session) .r .expiry
   pub within : a .r .expiry ≤ on A (a .r .session) .r .expiry
   pub lasts : a .r .kind ≡ 6 → a .r .expiry ≡ on A (a .r .session) .r .expiry
@@ -78,7 +80,7 @@ pub record Under (A : List Slot) (a : Slot) : Type 0 where
 
 pub data Placed (A : List Slot) (a : Slot) : Type 0 where
   login : a .r .kind ≡ 1 → a .r .session ≡ 0 → Placed A a
-  session : a .r .kind ≡ 2 → a .r .session ≡ 0 → a .e .session ≡ nameOf (a .r) → a .e .user ≡ a .r .text → a .e .until ≡ a .r .expiry → Placed A a
+  session : a .r .kind ≡ 2 → a .r .session ≡ 0 → a .e .session ≡ nameOf (a .r) → a .e .user ≡ a .r .text → a .e .since ≡ a .r .since → a .e .until ≡ a .r .expiry → Placed A a
   below : 3 ≤ a .r .kind → Under A a → Placed A a
 
 pub record Good (A : List Slot) (n : ℕ) (a : Slot) : Type 0 where
@@ -89,7 +91,8 @@ pub record Good (A : List Slot) (n : ℕ) (a : Slot) : Type 0 where
   pub iou-eq : a .r .kind ≡ 5 → a .e .iou ≡ iouText (a .r .iou)
   pub expiry-eq : a .e .expiry ≡ a .r .expiry
   pub text-eq : a .e .text ≡ a .r .text
-  pub mark-eq : a .e .mark ≡ not (eqb (a .r .mark) 0)
+  -- a grant's record has lost its ticket's mark
+  pub mark-eq : a .r .kind ≤ 5 → a .r .mark ≡ one (a .e .mark)
   pub fate-eq : isHeld (a .e .fate) ≡ true
   pub young : a .r .serial < n
   pub placed : Placed A a
@@ -131,6 +134,7 @@ under-move A B a es ek u =
       home = rw es (u .home);
       sess-eq = rw es (u .sess-eq);
       user-eq = rw es (u .user-eq);
+      since-eq = rw es (u .since-eq);
       until-eq = rw es (u .until-eq);
       within = rw es (u .within);
       lasts = rw es (u .lasts);
@@ -141,7 +145,7 @@ under-move A B a es ek u =
 pub placed-move : (A B : List Slot) (a : Slot) → (3 ≤ a .r .kind → on B (a .r .session) ≡ on A (a .r .session))
     → (3 ≤ a .r .kind → (k : ℕ) → upOf (a .r) ≡ suc k → on B (suc k) ≡ on A (suc k)) → Placed A a → Placed B a
 placed-move A B a es ek (login k s) = login k s
-placed-move A B a es ek (session k s n u t) = session k s n u t
+placed-move A B a es ek (session k s n u v t) = session k s n u v t
 placed-move A B a es ek (below k u) = below k (under-move A B a (es k) (ek k) u)
 
 pub good-move : (A B : List Slot) (n m : ℕ) (a : Slot) → n ≤ m → (3 ≤ a .r .kind → on B (a .r .session) ≡ on A (a .r .session))

@@ -1,4 +1,4 @@
--- The notebook's lines tell what the history itself tells: service, user, chain and credentials of a ticket, and of a grant. Assumes nothing.
+-- The notebook's lines tell what the history itself tells: service, user, sign-on time, chain and credentials of a ticket, and of a grant. Assumes nothing.
 use mathlib.Core.Path.{_≡_, refl, sym, ap, ap₂}
 use mathlib.Core.Logic.{_⊎_, inl, inr, _≢_}
 use mathlib.Core.Bool.{Bool, true, false, _&&_, _||_}
@@ -13,9 +13,10 @@ use Rattle.protocol.proofs.Laws.{both, same-eq, same-refl}
 use Rattle.account.specs.History.{Text}
 use Rattle.account.specs.Reading.{Item, Passed, Showed, Spent, Ended, Opened, Issued, Proxied, Burnt, Welcomed, CalledBack, Settled}
 use Rattle.account.specs.Notebook.{Fate, Line, isHeld, close, closeLine, closeAll, raiseLine, raiseAll, enter, pass, found, look, isLine, isTicket, isTicketLine, isWaitingLine, loginLine, sessionLine, lineUnder, note, notebook}
-use Rattle.account.specs.Truth.{noIssue, issueIn, noMaking, makingIn, noOpening, openingIn, Origin, Granting, loginOrigin, grantOrigin, openerOf, spentLive, originOf, grantOf, calledOf}
+use Rattle.account.specs.Truth.{noIssue, issueIn, noMaking, makingIn, noOpening, openingIn, Opener, Origin, Granting, loginOrigin, grantOrigin, openerOf, spentLive, originOf, grantOf, calledOf}
 use Rattle.account.proofs.Base.{Case, is, isnt, case, clash, untrue}
 use Rattle.account.proofs.Look.{seen}
+use Rattle.account.proofs.Logins.{clock-told}
 use Rattle.account.proofs.Reached.{OwesIssue, OwesCallback, Owes, AllOwes}
 
 abbrev pub isPgt : ℕ → Bool
@@ -23,14 +24,18 @@ isPgt kind = eqb kind aWaiting || eqb kind aGrant
 
 -- what a line tells
 abbrev pub originIn : Line → Origin
-originIn e = record { issued = true; service = e .text; user = e .user; chain = e .chain; proxied = eqb (e .kind) aProxy; credentials = e .mark }
+originIn e = record { issued = true; service = e .text; user = e .user; since = e .since; chain = e .chain; proxied = eqb (e .kind) aProxy; credentials = e .mark }
 
 abbrev pub grantingIn : Line → Granting
-grantingIn e = record { made = true; ticket = e .origin; iou = e .iou; user = e .user; chain = e .chain; url = e .text }
+grantingIn e =
+    record { made = true; ticket = e .origin; iou = e .iou; user = e .user; since = e .since; credentials = e .mark; chain = e .chain; url = e .text }
+
+abbrev pub openerIn : Line → Opener
+openerIn e = record { user = e .user; since = e .since }
 
 pub record Traced (start : ℕ) (h : List Item) (e : Line) : Type 0 where
   pub ticket : isTicket (e .kind) ≡ true → originOf start h (e .name) ≡ originIn e
-  pub opener : eqb (e .kind) aSession ≡ true → openerOf h (e .name) ≡ e .user
+  pub opener : eqb (e .kind) aSession ≡ true → openerOf start h (e .name) ≡ openerIn e
   pub grant : isPgt (e .kind) ≡ true → grantOf start h (e .name) ≡ grantingIn e
   pub called : eqb (e .kind) aWaiting ≡ true → calledOf start h (e .ref) ≡ grantingIn e
 
@@ -118,12 +123,12 @@ module _ (start : ℕ) (older : List Item) (book : List Line) (all : AllTraced s
 plain-line : (start : ℕ) (h : List Item) (e : Line) → isTicket (e .kind) ≡ false → eqb (e .kind) aSession ≡ false → isPgt (e .kind) ≡ false → eqb (e .kind) aWaiting ≡ false → Traced start h e
 plain-line start h e a b c d = record { ticket = λ u. absurd (clash u a); opener = λ u. absurd (clash u b); grant = λ u. absurd (clash u c); called = λ u. absurd (clash u d) }
 
-open-line : (start : ℕ) (older : List Item) (cookie user : Text) (signed : Bool) (lt : Text) (clock : ℕ) → Traced start (Opened cookie user signed lt ∷ older) (sessionLine cookie user clock)
+open-line : (start : ℕ) (older : List Item) (cookie user : Text) (signed : Bool) (lt : Text) → Traced start (Opened cookie user signed lt ∷ older) (sessionLine cookie user (notebook start older .clock))
 unfolding openerOf
-open-line start older cookie user signed lt clock =
+open-line start older cookie user signed lt =
     record {
       ticket = λ u. absurd (clash u refl);
-      opener = λ u. rw (same-refl cookie);
+      opener = λ u. rw (same-refl cookie, clock-told start older);
       grant = λ u. absurd (clash u refl);
       called = λ u. absurd (clash u refl);
     }
@@ -138,7 +143,7 @@ module _ (start : ℕ) (older : List Item) (all : AllTraced start older (noteboo
   unfolding originOf
   issue-line cookie service ticket signed lt o =
       record {
-        ticket = λ u. rw (same-refl ticket) (ap₂ (λ (x : Text) (c : Bool). loginOrigin service x c) user (sign signed (o .primary)));
+        ticket = λ u. rw (same-refl ticket) (ap₂ (λ (x : Opener) (c : Bool). loginOrigin service x c) opener (sign signed (o .primary)));
         opener = λ u. absurd (clash u refl);
         grant = λ u. absurd (clash u refl);
         called = λ u. absurd (clash u refl);
@@ -150,8 +155,8 @@ module _ (start : ℕ) (older : List Item) (all : AllTraced start older (noteboo
       n : (eqb (o .source .kind) aSession ≡ true) × (o .source .name ≡ cookie)
       n = line-of aSession cookie (o .source) (s .2)
 
-      user : openerOf older cookie ≡ o .source .user
-      user = rw (n .1) at (all (o .source) (s .0) .opener (n .0))
+      opener : openerOf start older cookie ≡ openerIn (o .source)
+      opener = rw (n .1) at (all (o .source) (s .0) .opener (n .0))
 
       sign : (b : Bool) → (b ≡ true → spentLive start older lt ≡ true) → (b && spentLive start older lt) ≡ b
       sign true f = f refl
@@ -190,7 +195,7 @@ module _ (start : ℕ) (older : List Item) (all : AllTraced start older (noteboo
 
   callback-line : (v : Validator) (renew : Bool) (ticket service url pgt iou : Text) (serial : ℕ) (o : OwesCallback start older v renew ticket service pgt serial)
       → Traced start (CalledBack v renew ticket service url pgt iou serial ∷ older)
-      (lineUnder aWaiting pgt serial url (o .ticket-line .chain) false (o .ticket-line .name) iou (notebook start older .clock) (o .ticket-line))
+      (lineUnder aWaiting pgt serial url (o .ticket-line .chain) (o .ticket-line .mark) (o .ticket-line .name) iou (notebook start older .clock) (o .ticket-line))
   unfolding originOf calledOf
   callback-line v renew ticket service url pgt iou serial o =
       let x = ticket-of ticket (o .ticket-line) (o .line) in
@@ -208,7 +213,7 @@ step-traced start (Passed time) older o all = close-traced start _ _ _ _ (aged-q
 step-traced start (Showed lt) older o all = enter-traced start _ _ _ (plain-line start _ (loginLine lt (notebook start older .clock)) refl refl refl refl) (aged-quiet start older _ all (Showed lt) refl refl refl)
 step-traced start (Spent lt) older o all = close-traced start _ _ _ _ (aged-quiet start older _ all (Spent lt) refl refl refl)
 step-traced start (Ended cookie) older o all = close-traced start _ _ _ _ (aged-quiet start older _ all (Ended cookie) refl refl refl)
-step-traced start (Opened cookie user signed lt) older o all = enter-traced start _ _ _ (open-line start older cookie user signed lt (notebook start older .clock)) (aged-open start older _ all cookie user signed lt (o .new))
+step-traced start (Opened cookie user signed lt) older o all = enter-traced start _ _ _ (open-line start older cookie user signed lt) (aged-open start older _ all cookie user signed lt (o .new))
 step-traced start (Issued cookie service ticket signed lt) older o all =
     rw (o .line) (enter-traced start _ _ _ (issue-line start older all cookie service ticket signed lt o) (aged-issue start older _ all cookie service ticket signed lt (o .new)))
 step-traced start (Proxied pgt target ticket) older o all =

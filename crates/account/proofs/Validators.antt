@@ -19,13 +19,13 @@ use Rattle.protocol.specs.declared.Validator.the-variants as validator
 use Rattle.protocol.proofs.Laws.{both}
 use Rattle.protocol.proofs.Added.{Room, room-one}
 use Rattle.account.specs.History.{Text, Told}
-use Rattle.account.specs.Clauses.{outOfPlace, unsigned, meant, burntAt, userOf, raisedAt, accepting, judging, settling}
+use Rattle.account.specs.Clauses.{outOfPlace, unsigned, meant, burntAt, userOf, sinceOf, raisedAt, accepting, judging, settling}
 use Rattle.account.specs.Reading.{Item, Burnt, CalledBack, readValidator, readFinish}
 use Rattle.account.proofs.Base.{fork}
 use Rattle.account.proofs.Sim.{on}
 use Rattle.account.proofs.Reached.{Reached, RightLine}
 use Rattle.account.proofs.Items.{reach-unburnt, right-line, reach-welcome, reach-callback, reach-refused}
-use Rattle.account.proofs.Rules.{taken, marked, for-service, reach-burnt, names-user, settled-owes, reach-raised}
+use Rattle.account.proofs.Rules.{taken, marked, for-service, reach-burnt, names-user, names-since, settled-owes, reach-raised}
 use Rattle.account.proofs.Texts.{pgt-read, iou-read}
 use Rattle.account.proofs.Counts.{Ok, ok-by}
 use Rattle.account.specs.Account.{says, carriesTicket}
@@ -95,25 +95,25 @@ module _ (start : ℕ) (h : List Item) (t : Table) (R : Reached start h t) (v : 
             accepts-eq = refl;
           }
 
-      success-ok : isPlain v ≡ false → Goes (step t′ (Success (userOf r t′) [] (chainOf (proxyParent r) (t′ .slots))))
+      success-ok : isPlain v ≡ false → Goes (step t′ (Success (userOf r t′) (sinceOf r t′) (r .mark) [] (chainOf (proxyParent r) (t′ .slots))))
       unfolding replyAnswer replyText readValidator
       success-ok z =
           record {
             reached =
-                reach-welcome start h t R ticket e v renew service (successText (userOf r t′) [] (chainOf (proxyParent r) (t′ .slots))) right
-                (rw (z, names-user start h t R ticket e));
+                reach-welcome start h t R ticket e v renew service (successText (userOf r t′) (sinceOf r t′) (r .mark) [] (chainOf (proxyParent r) (t′ .slots))) right
+                (rw (z, names-user start h t R ticket e, names-since start h t R ticket e));
             issues = refl;
             accepts-eq = refl;
           }
 
       abbrev waiting : Rec
-      waiting = newRec aWaiting 0 (proxyParent r) (r .session) (recAt (proxyParent r) (t′ .slots) .depth + 1) url (g .random) t′
+      waiting = newRec aWaiting (r .mark) (proxyParent r) (r .session) (recAt (proxyParent r) (t′ .slots) .depth + 1) url (g .random) t′
 
       callback-said : readValidator v q (replyAnswer (CallbackTo (waiting .text) (nameOf waiting) (iouText (waiting .iou)) (waiting .serial))) (replyText (CallbackTo (waiting .text) (nameOf waiting) (iouText (waiting .iou)) (waiting .serial)))
           ≡ CalledBack v renew ticket service url (nameOf waiting) (iouText (waiting .iou)) (waiting .serial) ∷ []
       unfolding replyAnswer replyText readValidator newRec
       callback-said =
-          let l = new-letters aWaiting 0 (proxyParent r) (r .session) (recAt (proxyParent r) (t′ .slots) .depth + 1) url (g .random) t′ (omega arith) (omega arith) in
+          let l = new-letters aWaiting (r .mark) (proxyParent r) (r .session) (recAt (proxyParent r) (t′ .slots) .depth + 1) url (g .random) t′ (omega arith) (omega arith) in
           ap₂ (λ (p : Text) (i : Text). CalledBack v renew ticket service url p i (waiting .serial) ∷ []) (pgt-read url (nameOf waiting) (iouText (waiting .iou)) l) (iou-read url (nameOf waiting) (iouText (waiting .iou)) l)
 
       callback-ok : Room t′ → Goes (waitingStep r url (g .random) t′)
@@ -163,19 +163,19 @@ module _ (start : ℕ) (h : List Item) (t : Table) (R : Reached start h t) (f : 
     abbrev waits : Rec
     waits = recAt slot (t .slots)
 
-    settled-yes : f .outcome ≡ true → F (step (raisedAt slot waits t) (Success (userOf waits t) (iouText (waits .iou)) (chainOf (waits .parent) (t .slots))))
+    settled-yes : f .outcome ≡ true → F (step (raisedAt slot waits t) (Success (userOf waits t) (sinceOf waits t) (waits .mark) (iouText (waits .iou)) (chainOf (waits .parent) (t .slots))))
     unfolding replyAnswer replyText readFinish
     settled-yes z =
         rw z
         (reach-raised start h t R (f .serial) e _
-        (settled-owes start h t R (f .serial) e true (successText (userOf waits t) (iouText (waits .iou)) (chainOf (waits .parent) (t .slots))) refl))
+        (settled-owes start h t R (f .serial) e true (successText (userOf waits t) (sinceOf waits t) (waits .mark) (iouText (waits .iou)) (chainOf (waits .parent) (t .slots))) refl))
 
-    settled-no : f .outcome ≡ false → F (step (remove slot t) (Success (userOf waits t) [] (chainOf (waits .parent) (t .slots))))
+    settled-no : f .outcome ≡ false → F (step (remove slot t) (Success (userOf waits t) (sinceOf waits t) (waits .mark) [] (chainOf (waits .parent) (t .slots))))
     unfolding replyAnswer replyText readFinish
     settled-no z =
         rw z
         (reach-refused start h t R (f .serial) e _
-        (settled-owes start h t R (f .serial) e false (successText (userOf waits t) [] (chainOf (waits .parent) (t .slots))) refl))
+        (settled-owes start h t R (f .serial) e false (successText (userOf waits t) (sinceOf waits t) (waits .mark) [] (chainOf (waits .parent) (t .slots))) refl))
 
   pub settled-ok : F (settling (waitingSlot (f .serial) t) (recAt (waitingSlot (f .serial) t) (t .slots)) (f .outcome) t)
   unfolding settling

@@ -160,13 +160,14 @@ pub record Rightful (v : Validator) (renew : Bool) (service : Text) (o : Origin)
   pub primary : renew ≡ true → o .credentials ≡ true
   pub allowed : o .proxied ≡ true → takesProxies v ≡ true
 
--- what a validator says of it: yes, or the user and the chain
+-- what a validator says of it: yes, or the user, the sign-on time, the mark, which is 1 where credentials came with the issuing call, and
+-- the chain
 abbrev pub welcome : Validator → Origin → Text
-welcome v o = if (isPlain v) (ascii "yes\n") (successText (o .user) [] (o .chain))
+welcome v o = if (isPlain v) (ascii "yes\n") (successText (o .user) (o .since) (one (o .credentials)) [] (o .chain))
 
--- what finish says of the callback of a serial: user and chain of the ticket accepted, the IOU that was shown only where the outcome was yes
+-- what finish says of the callback of a serial: the same of the ticket accepted, and the IOU that was shown only where the outcome was yes
 abbrev pub settlement : Bool → Granting → Text
-settlement outcome g = successText (g .user) (if outcome (g .iou) []) (g .chain)
+settlement outcome g = successText (g .user) (g .since) (one (g .credentials)) (if outcome (g .iou) []) (g .chain)
 
 -- what is owed for each thing said, by all that was said before; a session is opened by accepted credentials only
 abbrev pub Owed : ℕ → Item → List Item → Type 0
@@ -198,5 +199,5 @@ pub record Account (start : ℕ) (h : List Event) (b : Text) : Type 0 where
   -- no ticket is accepted twice, and none gets two success answers
   pub accepted-once : (x : Text) → acceptances (trailOf h) x ≤ 1
   pub once : (x : Text) → successes start (trailOf h) x ≤ 1
-  -- every acceptance and every success answer is right: service, credentials, user and chain
+  -- every acceptance and every success answer is right: service, credentials, user, sign-on time, mark and chain
   pub honest : Honest start (trailOf h)

@@ -4,13 +4,13 @@ use mathlib.Core.Bool.{Bool, true, false, _&&_, not}
 use mathlib.Core.List.{[]}
 use Prim.Native.Nat.{ℕ}
 use lib.Dec.{eqb}
-use Rattle.protocol.specs.Bytes.{if, same}
+use Rattle.protocol.specs.Bytes.{if, isEmpty, same}
 use Rattle.protocol.specs.Tickets.{aProxy, iouText}
 use Rattle.protocol.specs.Records.{Rec}
 use Rattle.protocol.specs.Table.{Table, recAt}
 use Rattle.protocol.specs.Request.{fromQuery, present}
-use Rattle.protocol.specs.Answers.{InvalidTicket, InvalidService, YesNo, Success, Failure}
-use Rattle.protocol.specs.Steps.{Brought, Step, step, put, remove, endSession, chainOf, issueAll, isPlain, takesProxies, failed, proxyParent, waitingStep, grants, granted}
+use Rattle.protocol.specs.Answers.{ErrorPage, SignedIn, InvalidTicket, InvalidService, YesNo, Success, Failure}
+use Rattle.protocol.specs.Steps.{Brought, Step, step, put, remove, endSession, roomFor, chainOf, ticketStep, issueAll, isPlain, takesProxies, failed, proxyParent, waitingStep, grants, granted}
 use Rattle.protocol.specs.declared.Validator.{Validator}
 use Rattle.account.specs.History.{Text}
 
@@ -30,9 +30,12 @@ meant r service = same (r .text) service
 unfoldable pub burntAt : ℕ → Table → Table
 burntAt k t = remove k t
 
--- the user that a success answer names: its session's
+-- the user that a success answer names, and the sign-on time: its session's
 unfoldable pub userOf : Rec → Table → Text
 userOf r t = recAt (r .session) (t .slots) .text
+
+unfoldable pub sinceOf : Rec → Table → ℕ
+sinceOf r t = recAt (r .session) (t .slots) .since
 
 -- (6): the ticket r is accepted; t is the table without it
 unfoldable pub accepting : Validator → Rec → Text → Brought → Table → Step
@@ -41,7 +44,7 @@ accepting v r url g t =
     (step t (YesNo true))
     (if (grants r url g t)
     (waitingStep r url (g .random) t)
-    (step t (Success (userOf r t) [] (chainOf (proxyParent r) (t .slots)))))
+    (step t (Success (userOf r t) (sinceOf r t) (r .mark) [] (chainOf (proxyParent r) (t .slots)))))
 
 -- (2) to (6): a live ticket in slot k, or none
 unfoldable pub judging : Validator → ℕ → Text → Brought → Table → Step
@@ -66,8 +69,24 @@ settling k r outcome t =
     if (eqb k 0)
     (step t (Failure InvalidTicket))
     (if outcome
-    (step (raisedAt k r t) (Success (userOf r t) (iouText (r .iou)) (chainOf (r .parent) (t .slots))))
-    (step (remove k t) (Success (userOf r t) [] (chainOf (r .parent) (t .slots)))))
+    (step (raisedAt k r t) (Success (userOf r t) (sinceOf r t) (r .mark) (iouText (r .iou)) (chainOf (r .parent) (t .slots))))
+    (step (remove k t) (Success (userOf r t) (sinceOf r t) (r .mark) [] (chainOf (r .parent) (t .slots)))))
+
+-- login by GET under a live session: no credentials come with it, so its ticket has mark 0
+unfoldable pub keptMark : ℕ
+keptMark = 0
+
+unfoldable pub standing : ℕ → Text → Text → Table → Step
+standing s service random t =
+    if (isEmpty service)
+    (step t SignedIn)
+    (if (roomFor 1 t)
+    (ticketStep keptMark s service random [] t)
+    (step t (ErrorPage 503)))
+
+-- login by POST, the user of the session in slot s: its record is left as it is, with its expiry and sign-on time
+unfoldable pub keptAt : ℕ → Table → Table
+keptAt s t = t
 
 -- login by POST, another user than that of the session in slot s: it is ended, with all its tickets
 unfoldable pub changedAt : ℕ → Table → Table
@@ -79,5 +98,5 @@ admitting s user service random t =
     if (eqb s 0)
     (issueAll false false s user service random t)
     (if (same (recAt s (t .slots) .text) user)
-    (issueAll true false s user service random t)
+    (issueAll true false s user service random (keptAt s t))
     (issueAll false true s user service random (changedAt s t)))

@@ -20,15 +20,16 @@ pub record Line : Type 0 where
   pub name : Text
   pub ref : ℕ
   pub expiry : ℕ
-  -- its session: the cookie, when it expires, and whose accepted credentials opened it
+  -- its session: the cookie, when it expires, whose accepted credentials opened it, and the clock in that call
   pub session : Text
   pub until : ℕ
   pub user : Text
+  pub since : ℕ
   -- service, or pgtUrl of a grant
   pub text : Text
   -- the chain; of a grant: that of the ticket accepted in the call that made it
   pub chain : List Text
-  -- the issuing call carried accepted credentials
+  -- the issuing call carried accepted credentials; of a grant: that of the ticket accepted in the call that made it
   pub mark : Bool
   -- of a grant: the ticket accepted in the call that made it, and the IOU shown in that call
   pub origin : Text
@@ -60,6 +61,7 @@ close f e =
       session = e .session;
       until = e .until;
       user = e .user;
+      since = e .since;
       text = e .text;
       chain = e .chain;
       mark = e .mark;
@@ -89,6 +91,7 @@ raise e =
       session = e .session;
       until = e .until;
       user = e .user;
+      since = e .since;
       text = e .text;
       chain = e .chain;
       mark = e .mark;
@@ -153,6 +156,7 @@ loginLine lt clock =
       session = [];
       until = 0;
       user = [];
+      since = 0;
       text = [];
       chain = [];
       mark = false;
@@ -171,6 +175,7 @@ sessionLine cookie user clock =
       session = cookie;
       until = clock + lifetime aSession;
       user = user;
+      since = clock;
       text = user;
       chain = [];
       mark = false;
@@ -190,6 +195,7 @@ lineUnder kind name ref text chain mark origin iou clock s =
       session = s .session;
       until = s .until;
       user = s .user;
+      since = s .since;
       text = text;
       chain = chain;
       mark = mark;
@@ -216,7 +222,7 @@ note (Proxied pgt target ticket) b =
 note (Burnt ticket) b = closeAll burnt (isTicketLine ticket) b
 note (Welcomed v renew ticket service said) b = closeAll accepted (isTicketLine ticket) b
 note (CalledBack v renew ticket service url pgt iou serial) b =
-    enterUnder (look (isTicketLine ticket) (b .book)) (λ (x : Line). lineUnder aWaiting pgt serial url (x .chain) false (x .name) iou (b .clock) x) (closeAll accepted (isTicketLine ticket) b)
+    enterUnder (look (isTicketLine ticket) (b .book)) (λ (x : Line). lineUnder aWaiting pgt serial url (x .chain) (x .mark) (x .name) iou (b .clock) x) (closeAll accepted (isTicketLine ticket) b)
 note (Settled serial true said) b = raiseAll (isWaitingLine serial) b
 note (Settled serial false said) b = closeAll spent (isWaitingLine serial) b
 

@@ -1,4 +1,5 @@
--- Where a ticket comes from, told from the history alone, besides the notebook: its service, its user, its true chain, its credentials.
+-- Where a ticket comes from, told from the history alone, besides the notebook: its service, its user and the time of sign-on, its true
+-- chain, its credentials.
 use mathlib.Core.Bool.{Bool, true, false, _&&_}
 use mathlib.Core.List.{List, [], _∷_}
 use Prim.Native.Nat.{ℕ, _+_, max}
@@ -81,16 +82,7 @@ spendingIn (Welcomed v renew ticket service said) = noSpending
 spendingIn (CalledBack v renew ticket service url pgt iou serial) = noSpending
 spendingIn (Settled serial outcome said) = noSpending
 
--- whose accepted credentials opened the session of a cookie: the username of the sign-on that wrote it
-abbrev pub openedHere : Opening → Text → Text → Text
-openedHere noOpening cookie before = before
-openedHere (opening c user) cookie before = if (same c cookie) user before
-
-unfoldable pub openerOf : List Item → Text → Text
-openerOf [] cookie = []
-openerOf (i ∷ older) cookie = openedHere (openingIn i) cookie (openerOf older cookie)
-
--- an item that tells the time, and one that shows a login ticket
+-- an item that tells the time
 pub data Passing : Type 0 where
   noPassing : Passing
   passing : (time : ℕ) → Passing
@@ -108,6 +100,32 @@ passingIn (Welcomed v renew ticket service said) = noPassing
 passingIn (CalledBack v renew ticket service url pgt iou serial) = noPassing
 passingIn (Settled serial outcome said) = noPassing
 
+-- the clock: the latest of the format's time and those of answered calls
+abbrev pub clockHere : Passing → ℕ → ℕ
+clockHere noPassing before = before
+clockHere (passing time) before = max before time
+
+unfoldable pub clockOf : ℕ → List Item → ℕ
+clockOf start [] = start
+clockOf start (i ∷ older) = clockHere (passingIn i) (clockOf start older)
+
+-- who opened the session of a cookie, and when: the username of the sign-on that wrote it, and the clock as it stood in that call
+pub record Opener : Type 0 where
+  pub user : Text
+  pub since : ℕ
+
+abbrev pub neverOpened : Opener
+neverOpened = record { user = []; since = 0 }
+
+abbrev pub openedHere : Opening → Text → ℕ → Opener → Opener
+openedHere noOpening cookie clock before = before
+openedHere (opening c user) cookie clock before = if (same c cookie) (record { user = user; since = clock }) before
+
+unfoldable pub openerOf : ℕ → List Item → Text → Opener
+openerOf start [] cookie = neverOpened
+openerOf start (i ∷ older) cookie = openedHere (openingIn i) cookie (clockOf start older) (openerOf start older cookie)
+
+-- an item that shows a login ticket
 pub data Showing : Type 0 where
   noShowing : Showing
   showing : (lt : Text) → Showing
@@ -124,15 +142,6 @@ showingIn (Burnt ticket) = noShowing
 showingIn (Welcomed v renew ticket service said) = noShowing
 showingIn (CalledBack v renew ticket service url pgt iou serial) = noShowing
 showingIn (Settled serial outcome said) = noShowing
-
--- the clock: the latest of the format's time and those of answered calls
-abbrev pub clockHere : Passing → ℕ → ℕ
-clockHere noPassing before = before
-clockHere (passing time) before = max before time
-
-unfoldable pub clockOf : ℕ → List Item → ℕ
-clockOf start [] = start
-clockOf start (i ∷ older) = clockHere (passingIn i) (clockOf start older)
 
 -- when a login ticket expires: its lifetime after the form that showed it; at once when a sign-on has shown it
 abbrev pub shownHere : Showing → Text → ℕ → ℕ → ℕ
@@ -160,46 +169,54 @@ unfoldable pub spentLive : ℕ → List Item → Text → Bool
 spentLive start [] lt = false
 spentLive start (i ∷ older) lt = spentHere (spendingIn i) lt (loginLive start older lt) (spentLive start older lt)
 
--- a ticket: it was issued, to this service, under a session of this user, with this chain, by a grant, by accepted credentials
+-- a ticket: it was issued, to this service, under a session of this user, opened at this time, with this chain, by a grant, by a call with
+-- accepted credentials
 pub record Origin : Type 0 where
   pub issued : Bool
   pub service : Text
   pub user : Text
+  pub since : ℕ
   pub chain : List Text
   pub proxied : Bool
   pub credentials : Bool
 
--- a grant, or the callback of a serial: it was made; the ticket accepted in the call that made it, the IOU shown, the user and chain of that ticket, and pgtUrl
+-- a grant, or the callback of a serial: it was made; the ticket accepted in the call that made it, the IOU shown, what is told of that
+-- ticket, and pgtUrl
 pub record Granting : Type 0 where
   pub made : Bool
   pub ticket : Text
   pub iou : Text
   pub user : Text
+  pub since : ℕ
+  pub credentials : Bool
   pub chain : List Text
   pub url : Text
 
 abbrev pub neverIssued : Origin
-neverIssued = record { issued = false; service = []; user = []; chain = []; proxied = false; credentials = false }
+neverIssued = record { issued = false; service = []; user = []; since = 0; chain = []; proxied = false; credentials = false }
 
 abbrev pub neverMade : Granting
-neverMade = record { made = false; ticket = []; iou = []; user = []; chain = []; url = [] }
+neverMade = record { made = false; ticket = []; iou = []; user = []; since = 0; credentials = false; chain = []; url = [] }
 
--- issued by login: the session's user, no chain; credentials where the call was signed and its login ticket live.
-abbrev pub loginOrigin : Text → Text → Bool → Origin
-loginOrigin service user credentials = record { issued = true; service = service; user = user; chain = []; proxied = false; credentials = credentials }
+-- issued by login: the session's user and sign-on time, no chain; credentials where the call was signed and its login ticket live.
+abbrev pub loginOrigin : Text → Opener → Bool → Origin
+loginOrigin service opener credentials =
+    record { issued = true; service = service; user = opener .user; since = opener .since; chain = []; proxied = false; credentials = credentials }
 
--- issued by a grant: its user; pgtUrl of the call that made the grant, then the chain of the ticket accepted in that call
+-- issued by a grant: its user and sign-on time, no credentials; pgtUrl of the call that made the grant, then the chain of the ticket
+-- accepted in that call
 abbrev pub grantOrigin : Text → Granting → Origin
-grantOrigin target g = record { issued = true; service = target; user = g .user; chain = g .url ∷ g .chain; proxied = true; credentials = false }
+grantOrigin target g =
+    record { issued = true; service = target; user = g .user; since = g .since; chain = g .url ∷ g .chain; proxied = true; credentials = false }
 
-abbrev pub issuedHere : Issue → Text → (Text → Text) → (Text → Bool) → (Text → Granting) → Origin → Origin
-issuedHere noIssue x user live grant before = before
-issuedHere (byLogin cookie service ticket signed lt) x user live grant before = if (same ticket x) (loginOrigin service (user cookie) (signed && live lt)) before
-issuedHere (byGrant pgt target ticket) x user live grant before = if (same ticket x) (grantOrigin target (grant pgt)) before
+abbrev pub issuedHere : Issue → Text → (Text → Opener) → (Text → Bool) → (Text → Granting) → Origin → Origin
+issuedHere noIssue x opener live grant before = before
+issuedHere (byLogin cookie service ticket signed lt) x opener live grant before = if (same ticket x) (loginOrigin service (opener cookie) (signed && live lt)) before
+issuedHere (byGrant pgt target ticket) x opener live grant before = if (same ticket x) (grantOrigin target (grant pgt)) before
 
 -- made in a call that accepted a ticket
 abbrev pub madeFrom : Text → Text → Text → Origin → Granting
-madeFrom ticket iou url o = record { made = true; ticket = ticket; iou = iou; user = o .user; chain = o .chain; url = url }
+madeFrom ticket iou url o = record { made = true; ticket = ticket; iou = iou; user = o .user; since = o .since; credentials = o .credentials; chain = o .chain; url = url }
 
 abbrev pub madeHere : Making → Text → (Text → Origin) → Granting → Granting
 madeHere noMaking g origin before = before
@@ -214,7 +231,7 @@ unfoldable mutual
   pub originOf : ℕ → List Item → Text → Origin
   originOf start [] x = neverIssued
   originOf start (i ∷ older) x =
-      issuedHere (issueIn i) x (λ (c : Text). openerOf older c) (λ (l : Text). spentLive start older l) (λ (g : Text). grantOf start older g) (originOf start older x)
+      issuedHere (issueIn i) x (λ (c : Text). openerOf start older c) (λ (l : Text). spentLive start older l) (λ (g : Text). grantOf start older g) (originOf start older x)
 
   -- of a grant, by its text
   pub grantOf : ℕ → List Item → Text → Granting

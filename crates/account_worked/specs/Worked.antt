@@ -1,28 +1,28 @@
 -- A worked example of the account: a closed history of fourteen calls on a table of nine blocks, computed with its counts.
 -- One of them is refused. Tickets: ST-3 accepted with a callback, PT-5 accepted by its grant, ST-6 expired, ST-7 burnt, ST-8 ended, ST-11 waiting.
 use mathlib.Core.Path.{_≡_, refl, sym, ap, _∙_}
-use mathlib.Core.Bool.{Bool, true, false, not, _&&_, _||_}
+use mathlib.Core.Bool.{Bool, true, false}
 use mathlib.Core.List.{List, [], _∷_, _++_, map}
-use Prim.Native.Nat.{ℕ, zero, suc, _+_, _-_, _*_, _/_, _%_, _^_, min, max}
+use Prim.Native.Nat.{ℕ, _^_}
 use Prim.Native.String.{String}
-use lib.Dec.{eqb, leb, ltb}
-use lib.ListN.{length, getD, set, take, drop, replicate}
+use lib.ListN.{replicate}
 use Rattle.protocol.specs.declared.Method.{Method}
 use Rattle.protocol.specs.declared.Method.the-variants as method
 use Rattle.protocol.specs.declared.Validator.the-variants as validator
 use Rattle.protocol.specs.Bytes.{ascii, zeros, joined, same, among, allDiffer, allWithin, holds, leOf, bytesOf, spliced, upTo, past, cuts, digits, hex, blocks}
 use Rattle.protocol.specs.Blocks.{checkFrom, houseCheck, sealed, checkRight}
-use Rattle.protocol.specs.Tickets.{deepest, markMost, depthLeast, depthMost, textLeast, textMost, secretFrom, iouFrom, ticketText, iouText}
-use Rattle.protocol.specs.Records.{recBody, encodeRec, decodeRec, nameOf, textRight, fieldsRight, serialRight, expiryRight, ownRight}
+use Rattle.protocol.specs.Tickets.{deepest, markMost, depthLeast, depthMost, textLeast, textMost, secretFrom, iouFrom, sinceFrom, ticketText, iouText}
+use Rattle.protocol.specs.Records.{recBody, encodeRec, decodeRec, nameOf, textRight, fieldsRight, sinceRight, serialRight, expiryRight, ownRight}
 use Rattle.protocol.specs.Table.{headBody, encodeTable, decodeTable, slotFrom, countKind, serialTaken, serialsDiffer, sessionRight, grantRight, parentRight, allRight, loginCap, rulesHold, tableLawful, formatted}
-use Rattle.protocol.specs.Register.{Entry, entryBody, encodeEntry, decodeEntry, decodeRegister, addressRight, entryRight, allEntriesRight, servicesOf, registerLawful, registered, callbackOf}
+use Rattle.protocol.specs.Register.{entryBody, encodeEntry, decodeEntry, decodeRegister, addressRight, entryRight, allEntriesRight, servicesOf, registerLawful, registered, callbackOf}
 use Rattle.protocol.specs.Request.{pathNamed, notEmpty, pieces, countNamed, firstNamed, occurrences, rawValue, hexValue, unitOf, skipOf, decodedFrom, valueMost, charsRight, valueRight, loginNames, bodyNames, logoutNames, validatorNames, proxyNames, badName, malformed, valueOf, present}
-use Rattle.protocol.specs.Answers.{escapedByte, escaped, extended, pageHead, formText, inResponse, proxyLines, successText, failureText, proxySuccessText, callbackText, replyText, replyAnswer}
+use Rattle.protocol.specs.Calendar.{isLeap, yearLength, monthLength, yearFrom, yearOf, monthFrom, monthOf, dateOf, padded, dayText, clockText, dateText}
+use Rattle.protocol.specs.Answers.{escapedByte, escaped, extended, pageHead, formText, inResponse, proxyLines, attributesText, successText, failureText, proxySuccessText, callbackText, replyText, replyAnswer}
 use Rattle.protocol.specs.Steps.{tick, endSession, isNamed, slotNamed, ticketSlot, slotFor, roomFor, expiryFor, newRec, add, chainFrom, chainOf, formWith, formStep, ticketWith, ticketStep, signedOn, loginPage, unknownService, loginGet, admitted, newSession, needs, issueAll, accepted, credentials, loginTicket, loginPost, waitingWith, waitingStep, grants, acceptTicket, judgeTicket, presented, validate, granted, waitingSlot, finished, finishAt, finish, proxyWith, proxyBy, proxy, linkTo, logout}
 use Rattle.protocol.specs.Calls.{Result, outcomeWith, answerRefusal, stepOf, delivered, answerOf, finishRefusal, finishOf, formatRefusal, formatOf, checkOf, formRefusal, formOf}
-use Rattle.account.specs.History.{Text, Asked, Told, Call, ask, tell, Event, served, eventOf, tableAfter, historyOf}
+use Rattle.account.specs.History.{Text, Call, ask, tell, Event, served, eventOf, tableAfter, historyOf}
 use Rattle.account.specs.Reading.{Item, Passed, Showed, Spent, Ended, Opened, Issued, Proxied, Burnt, Welcomed, CalledBack, Settled, readLoginGet, readSession, readLoginPost, readValidator, readProxy, readFinish, readGet, readPost, readCall, read, trailOf}
-use Rattle.account.specs.Notebook.{isBurnt, isEnded, isExpired, isAccepted, closeAll, enter, raiseAll, pass, look, note, notebook, tally}
+use Rattle.account.specs.Notebook.{isBurnt, isEnded, isExpired, closeAll, enter, raiseAll, pass, look, note, notebook, tally}
 use Rattle.account.specs.Truth.{openerOf, spentLive, calledOf, originOf, grantOf}
 use Rattle.account.specs.Account.{issuedBy, acceptedBy, issued, accepted as acceptedOfAccount, waitingAmong, waitingIn, successes}
 
@@ -88,7 +88,7 @@ calls =
 
 -- the whole life of the table
 whole : Lived
-unfolding lived calls asked register joined same among allDiffer allWithin holds leOf bytesOf spliced upTo past cuts digits hex blocks checkFrom houseCheck sealed checkRight deepest markMost depthLeast depthMost textLeast textMost secretFrom iouFrom ticketText iouText recBody encodeRec decodeRec nameOf textRight fieldsRight serialRight expiryRight ownRight headBody encodeTable decodeTable slotFrom countKind serialTaken serialsDiffer sessionRight grantRight parentRight allRight loginCap rulesHold tableLawful formatted entryBody encodeEntry decodeEntry decodeRegister addressRight entryRight allEntriesRight servicesOf registerLawful registered callbackOf pathNamed notEmpty pieces countNamed firstNamed occurrences rawValue hexValue unitOf skipOf decodedFrom valueMost charsRight valueRight loginNames bodyNames logoutNames validatorNames proxyNames badName malformed valueOf present escapedByte escaped extended pageHead formText inResponse proxyLines successText failureText proxySuccessText callbackText replyText replyAnswer tick endSession isNamed slotNamed ticketSlot slotFor roomFor expiryFor newRec add chainFrom chainOf formWith formStep ticketWith ticketStep signedOn loginPage unknownService loginGet admitted newSession needs issueAll accepted credentials loginTicket loginPost waitingWith waitingStep grants acceptTicket judgeTicket presented validate granted waitingSlot finished finishAt finish proxyWith proxyBy proxy linkTo logout outcomeWith answerRefusal stepOf delivered answerOf finishRefusal finishOf formatRefusal formatOf checkOf formRefusal formOf served eventOf tableAfter historyOf readLoginGet readSession readLoginPost readValidator readProxy readFinish readGet readPost readCall read trailOf closeAll enter raiseAll pass look note notebook tally openerOf spentLive calledOf originOf grantOf issuedBy acceptedBy issued acceptedOfAccount waitingAmong waitingIn successes
+unfolding lived calls asked register joined same among allDiffer allWithin holds leOf bytesOf spliced upTo past cuts digits hex blocks checkFrom houseCheck sealed checkRight deepest markMost depthLeast depthMost textLeast textMost secretFrom iouFrom sinceFrom ticketText iouText recBody encodeRec decodeRec nameOf textRight fieldsRight sinceRight serialRight expiryRight ownRight headBody encodeTable decodeTable slotFrom countKind serialTaken serialsDiffer sessionRight grantRight parentRight allRight loginCap rulesHold tableLawful formatted entryBody encodeEntry decodeEntry decodeRegister addressRight entryRight allEntriesRight servicesOf registerLawful registered callbackOf pathNamed notEmpty pieces countNamed firstNamed occurrences rawValue hexValue unitOf skipOf decodedFrom valueMost charsRight valueRight loginNames bodyNames logoutNames validatorNames proxyNames badName malformed valueOf present escapedByte escaped extended pageHead formText inResponse proxyLines isLeap yearLength monthLength yearFrom yearOf monthFrom monthOf dateOf padded dayText clockText dateText attributesText successText failureText proxySuccessText callbackText replyText replyAnswer tick endSession isNamed slotNamed ticketSlot slotFor roomFor expiryFor newRec add chainFrom chainOf formWith formStep ticketWith ticketStep signedOn loginPage unknownService loginGet admitted newSession needs issueAll accepted credentials loginTicket loginPost waitingWith waitingStep grants acceptTicket judgeTicket presented validate granted waitingSlot finished finishAt finish proxyWith proxyBy proxy linkTo logout outcomeWith answerRefusal stepOf delivered answerOf finishRefusal finishOf formatRefusal formatOf checkOf formRefusal formOf served eventOf tableAfter historyOf readLoginGet readSession readLoginPost readValidator readProxy readFinish readGet readPost readCall read trailOf closeAll enter raiseAll pass look note notebook tally openerOf spentLive calledOf originOf grantOf issuedBy acceptedBy issued acceptedOfAccount waitingAmong waitingIn successes
 whole = lived (formatOf (zeros 4608) 999 .table) calls
 
 -- the texts of tickets whose secrets are zeros
@@ -107,9 +107,15 @@ panelQ = ascii "https://q.lan/"
 abbrev callbackP : Text
 callbackP = ascii "https://p.lan/cb"
 
+-- the success answers: ann signed on at 1001; ST-3 came of that very sign-on, PT-5 of a grant
+abbrev toldAtFinish : Text
+toldAtFinish = ascii "<cas:serviceResponse xmlns:cas=\"http://www.yale.edu/tp/cas\">\n  <cas:authenticationSuccess>\n    <cas:user>ann</cas:user>\n    <cas:attributes>\n      <cas:authenticationDate>1970-01-01T00:16:41Z</cas:authenticationDate>\n      <cas:longTermAuthenticationRequestTokenUsed>false</cas:longTermAuthenticationRequestTokenUsed>\n      <cas:isFromNewLogin>true</cas:isFromNewLogin>\n    </cas:attributes>\n    <cas:proxyGrantingTicket>PGTIOU-00000000000000000000000000000000</cas:proxyGrantingTicket>\n  </cas:authenticationSuccess>\n</cas:serviceResponse>\n"
+
+abbrev toldByProxy : Text
+toldByProxy = ascii "<cas:serviceResponse xmlns:cas=\"http://www.yale.edu/tp/cas\">\n  <cas:authenticationSuccess>\n    <cas:user>ann</cas:user>\n    <cas:attributes>\n      <cas:authenticationDate>1970-01-01T00:16:41Z</cas:authenticationDate>\n      <cas:longTermAuthenticationRequestTokenUsed>false</cas:longTermAuthenticationRequestTokenUsed>\n      <cas:isFromNewLogin>false</cas:isFromNewLogin>\n    </cas:attributes>\n    <cas:proxies>\n      <cas:proxy>https://p.lan/cb</cas:proxy>\n    </cas:proxies>\n  </cas:authenticationSuccess>\n</cas:serviceResponse>\n"
+
 -- what the calls and their answers say, the newest first; the refused call says nothing
 pub said : List Item
-unfolding successText inResponse escaped escapedByte proxyLines
 said =
     Issued (long "TGC-10-") panelP (short "ST-11-") true (short "LT-9-")
     ∷ Opened (long "TGC-10-") (ascii "bob") true (short "LT-9-")
@@ -126,13 +132,13 @@ said =
     ∷ Passed 1008
     ∷ Issued (long "TGC-2-") panelP (short "ST-7-") false []
     ∷ Passed 1007
-    ∷ Welcomed validator.Proxy false (short "PT-5-") panelQ (successText (ascii "ann") [] (callbackP ∷ []))
+    ∷ Welcomed validator.Proxy false (short "PT-5-") panelQ toldByProxy
     ∷ Passed 1006
     ∷ Issued (long "TGC-2-") panelP (short "ST-6-") false []
     ∷ Passed 1005
     ∷ Proxied (long "PGT-4-") panelQ (short "PT-5-")
     ∷ Passed 1004
-    ∷ Settled 4 true (successText (ascii "ann") (long "PGTIOU-") [])
+    ∷ Settled 4 true toldAtFinish
     ∷ Passed 1003
     ∷ CalledBack validator.Service true (short "ST-3-") panelP callbackP (long "PGT-4-") (long "PGTIOU-") 4
     ∷ Passed 1002
@@ -146,12 +152,12 @@ said =
     ∷ []
 
 pub trailIn : Lived → List Item
-unfolding joined same among allDiffer allWithin holds leOf bytesOf spliced upTo past cuts digits hex blocks checkFrom houseCheck sealed checkRight deepest markMost depthLeast depthMost textLeast textMost secretFrom iouFrom ticketText iouText recBody encodeRec decodeRec nameOf textRight fieldsRight serialRight expiryRight ownRight headBody encodeTable decodeTable slotFrom countKind serialTaken serialsDiffer sessionRight grantRight parentRight allRight loginCap rulesHold tableLawful formatted entryBody encodeEntry decodeEntry decodeRegister addressRight entryRight allEntriesRight servicesOf registerLawful registered callbackOf pathNamed notEmpty pieces countNamed firstNamed occurrences rawValue hexValue unitOf skipOf decodedFrom valueMost charsRight valueRight loginNames bodyNames logoutNames validatorNames proxyNames badName malformed valueOf present escapedByte escaped extended pageHead formText inResponse proxyLines successText failureText proxySuccessText callbackText replyText replyAnswer tick endSession isNamed slotNamed ticketSlot slotFor roomFor expiryFor newRec add chainFrom chainOf formWith formStep ticketWith ticketStep signedOn loginPage unknownService loginGet admitted newSession needs issueAll accepted credentials loginTicket loginPost waitingWith waitingStep grants acceptTicket judgeTicket presented validate granted waitingSlot finished finishAt finish proxyWith proxyBy proxy linkTo logout outcomeWith answerRefusal stepOf delivered answerOf finishRefusal finishOf formatRefusal formatOf checkOf formRefusal formOf served eventOf tableAfter historyOf readLoginGet readSession readLoginPost readValidator readProxy readFinish readGet readPost readCall read trailOf closeAll enter raiseAll pass look note notebook tally openerOf spentLive calledOf originOf grantOf issuedBy acceptedBy issued acceptedOfAccount waitingAmong waitingIn successes
+unfolding joined same among allDiffer allWithin holds leOf bytesOf spliced upTo past cuts digits hex blocks checkFrom houseCheck sealed checkRight deepest markMost depthLeast depthMost textLeast textMost secretFrom iouFrom sinceFrom ticketText iouText recBody encodeRec decodeRec nameOf textRight fieldsRight sinceRight serialRight expiryRight ownRight headBody encodeTable decodeTable slotFrom countKind serialTaken serialsDiffer sessionRight grantRight parentRight allRight loginCap rulesHold tableLawful formatted entryBody encodeEntry decodeEntry decodeRegister addressRight entryRight allEntriesRight servicesOf registerLawful registered callbackOf pathNamed notEmpty pieces countNamed firstNamed occurrences rawValue hexValue unitOf skipOf decodedFrom valueMost charsRight valueRight loginNames bodyNames logoutNames validatorNames proxyNames badName malformed valueOf present escapedByte escaped extended pageHead formText inResponse proxyLines isLeap yearLength monthLength yearFrom yearOf monthFrom monthOf dateOf padded dayText clockText dateText attributesText successText failureText proxySuccessText callbackText replyText replyAnswer tick endSession isNamed slotNamed ticketSlot slotFor roomFor expiryFor newRec add chainFrom chainOf formWith formStep ticketWith ticketStep signedOn loginPage unknownService loginGet admitted newSession needs issueAll accepted credentials loginTicket loginPost waitingWith waitingStep grants acceptTicket judgeTicket presented validate granted waitingSlot finished finishAt finish proxyWith proxyBy proxy linkTo logout outcomeWith answerRefusal stepOf delivered answerOf finishRefusal finishOf formatRefusal formatOf checkOf formRefusal formOf served eventOf tableAfter historyOf readLoginGet readSession readLoginPost readValidator readProxy readFinish readGet readPost readCall read trailOf closeAll enter raiseAll pass look note notebook tally openerOf spentLive calledOf originOf grantOf issuedBy acceptedBy issued acceptedOfAccount waitingAmong waitingIn successes
 trailIn l = trailOf (l .events)
 
 -- issued, accepted, burnt, ended, expired, waiting
 pub countsIn : Lived → List ℕ
-unfolding joined same among allDiffer allWithin holds leOf bytesOf spliced upTo past cuts digits hex blocks checkFrom houseCheck sealed checkRight deepest markMost depthLeast depthMost textLeast textMost secretFrom iouFrom ticketText iouText recBody encodeRec decodeRec nameOf textRight fieldsRight serialRight expiryRight ownRight headBody encodeTable decodeTable slotFrom countKind serialTaken serialsDiffer sessionRight grantRight parentRight allRight loginCap rulesHold tableLawful formatted entryBody encodeEntry decodeEntry decodeRegister addressRight entryRight allEntriesRight servicesOf registerLawful registered callbackOf pathNamed notEmpty pieces countNamed firstNamed occurrences rawValue hexValue unitOf skipOf decodedFrom valueMost charsRight valueRight loginNames bodyNames logoutNames validatorNames proxyNames badName malformed valueOf present escapedByte escaped extended pageHead formText inResponse proxyLines successText failureText proxySuccessText callbackText replyText replyAnswer tick endSession isNamed slotNamed ticketSlot slotFor roomFor expiryFor newRec add chainFrom chainOf formWith formStep ticketWith ticketStep signedOn loginPage unknownService loginGet admitted newSession needs issueAll accepted credentials loginTicket loginPost waitingWith waitingStep grants acceptTicket judgeTicket presented validate granted waitingSlot finished finishAt finish proxyWith proxyBy proxy linkTo logout outcomeWith answerRefusal stepOf delivered answerOf finishRefusal finishOf formatRefusal formatOf checkOf formRefusal formOf served eventOf tableAfter historyOf readLoginGet readSession readLoginPost readValidator readProxy readFinish readGet readPost readCall read trailOf closeAll enter raiseAll pass look note notebook tally openerOf spentLive calledOf originOf grantOf issuedBy acceptedBy issued acceptedOfAccount waitingAmong waitingIn successes
+unfolding joined same among allDiffer allWithin holds leOf bytesOf spliced upTo past cuts digits hex blocks checkFrom houseCheck sealed checkRight deepest markMost depthLeast depthMost textLeast textMost secretFrom iouFrom sinceFrom ticketText iouText recBody encodeRec decodeRec nameOf textRight fieldsRight sinceRight serialRight expiryRight ownRight headBody encodeTable decodeTable slotFrom countKind serialTaken serialsDiffer sessionRight grantRight parentRight allRight loginCap rulesHold tableLawful formatted entryBody encodeEntry decodeEntry decodeRegister addressRight entryRight allEntriesRight servicesOf registerLawful registered callbackOf pathNamed notEmpty pieces countNamed firstNamed occurrences rawValue hexValue unitOf skipOf decodedFrom valueMost charsRight valueRight loginNames bodyNames logoutNames validatorNames proxyNames badName malformed valueOf present escapedByte escaped extended pageHead formText inResponse proxyLines isLeap yearLength monthLength yearFrom yearOf monthFrom monthOf dateOf padded dayText clockText dateText attributesText successText failureText proxySuccessText callbackText replyText replyAnswer tick endSession isNamed slotNamed ticketSlot slotFor roomFor expiryFor newRec add chainFrom chainOf formWith formStep ticketWith ticketStep signedOn loginPage unknownService loginGet admitted newSession needs issueAll accepted credentials loginTicket loginPost waitingWith waitingStep grants acceptTicket judgeTicket presented validate granted waitingSlot finished finishAt finish proxyWith proxyBy proxy linkTo logout outcomeWith answerRefusal stepOf delivered answerOf finishRefusal finishOf formatRefusal formatOf checkOf formRefusal formOf served eventOf tableAfter historyOf readLoginGet readSession readLoginPost readValidator readProxy readFinish readGet readPost readCall read trailOf closeAll enter raiseAll pass look note notebook tally openerOf spentLive calledOf originOf grantOf issuedBy acceptedBy issued acceptedOfAccount waitingAmong waitingIn successes
 countsIn l =
     issued (l .events)
     ∷ acceptedOfAccount (l .events)

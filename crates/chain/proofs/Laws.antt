@@ -11,14 +11,14 @@ use lib.ListN.{length}
 use Rattle.protocol.specs.Bytes.{if}
 use Rattle.protocol.specs.Tickets.{aService, aProxy, depthMost}
 use Rattle.protocol.specs.Records.{Rec}
-use Rattle.protocol.specs.Table.{Table, decodeTable, recAt, parentRight, grantRight}
-use Rattle.protocol.specs.Answers.{proxyLines, proxiesText, Success, replyText}
-use Rattle.protocol.specs.Steps.{chainFrom, chainOf}
+use Rattle.protocol.specs.Table.{Table, decodeTable, recAt, parentRight, grantRight, lastTime}
+use Rattle.protocol.specs.Answers.{proxyLines, proxiesText, replyText}
+use Rattle.protocol.specs.Steps.{chainFrom, chainOf, successOf}
 use Rattle.protocol.specs.Written.{Room, Wrote}
 use Rattle.protocol.specs.Held.{Fine, Lawful, In, Said}
 use Rattle.protocol.specs.declared.Answer.the-variants as answer
 use Rattle.protocol.specs.declared.Outcome.{Outcome}
-use Rattle.protocol.proofs.Laws.{both}
+use Rattle.protocol.proofs.Laws.{both, own, right-own, rules}
 use Rattle.protocol.proofs.Kept.{recs3, right-slot}
 use Rattle.protocol.proofs.Sound.{Sound}
 use Rattle.protocol.proofs.StepSound.{slot-within}
@@ -169,26 +169,31 @@ module _ (o : List ℕ) (at d k : ℕ) (slots : List Rec) (e : d ≡ recAt k slo
 
 -- The whole success
 
-module _ (b : List ℕ) (s : ℕ) (iou : List ℕ) (p : ℕ) (o : List ℕ) (h : Told b s iou p o) where
+module _ (b : List ℕ) (s mark : ℕ) (iou : List ℕ) (p : ℕ) (o : List ℕ) (h : Told b s iou p o) where
   told-fine : Fine b
   told-fine = h .lawful .fine
 
-  module _ (user : List ℕ) (e : user ≡ recAt s (decodeTable b .slots) .text) where
+  pub since-known : {x : ℕ} → x ≡ recAt s (decodeTable b .slots) .since → x ≤ lastTime
+  since-known q =
+      let t = decodeTable b in
+      omega (arith, q, own (t .clock) (t .next) (recAt s (t .slots)) (right-own (t .clock) (t .next) (t .slots) (recAt s (t .slots)) (right-slot (t .clock) (t .next) (t .slots) (rules t (h .lawful .rules) .records) s)) .since, told-fine .clock)
+
+  module _ (user : List ℕ) (e : user ≡ recAt s (decodeTable b .slots) .text) (since : ℕ) (f : since ≡ recAt s (decodeTable b .slots) .since) where
     pub user-short : length user ≤ 200
     user-short = rw e (fits-of b s told-fine .sized .text)
 
-    as-parts : replyText (Success (recAt s (decodeTable b .slots) .text) iou (chainOf p (decodeTable b .slots))) ≡ successHead user iou ++ (proxiesText (chainOf p (decodeTable b .slots)) ++ successTail)
-    as-parts = success-parts (recAt s (decodeTable b .slots) .text) iou (chainOf p (decodeTable b .slots)) ∙ ap (λ (u : List ℕ). successHead u iou ++ (proxiesText (chainOf p (decodeTable b .slots)) ++ successTail)) (sym e)
+    as-parts : replyText (successOf s mark iou p (decodeTable b .slots)) ≡ successHead user since mark iou ++ (proxiesText (chainOf p (decodeTable b .slots)) ++ successTail)
+    as-parts = success-parts (recAt s (decodeTable b .slots) .text) (recAt s (decodeTable b .slots) .since) mark iou (chainOf p (decodeTable b .slots)) ∙ rw (e, f)
 
-    whole : Room o 0 (successHead user iou ++ (proxiesText (chainOf p (decodeTable b .slots)) ++ successTail))
+    whole : Room o 0 (successHead user since mark iou ++ (proxiesText (chainOf p (decodeTable b .slots)) ++ successTail))
     whole =
         let t = decodeTable b in
-        let m = small-fits (success-fits t (sound-held b (h .lawful)) t s p iou (h .short) .reply) in
+        let m = small-fits (success-fits t (sound-held b (h .lawful)) t s mark p iou (h .short) .reply) in
         room-as as-parts (record { fits = omega (arith, m, h .room) })
 
-    module _ (o₁ : List ℕ) (head : ℕ) (w : Wrote o 0 o₁ head (successHead user iou)) where
+    module _ (o₁ : List ℕ) (head : ℕ) (w : Wrote o 0 o₁ head (successHead user since mark iou)) where
       after-head : Room o₁ head (proxiesText (chainOf p (decodeTable b .slots)) ++ successTail)
-      after-head = room-next o o₁ 0 head (successHead user iou) (proxiesText (chainOf p (decodeTable b .slots)) ++ successTail) whole w
+      after-head = room-next o o₁ 0 head (successHead user since mark iou) (proxiesText (chainOf p (decodeTable b .slots)) ++ successTail) whole w
 
       pub proxies-room : Room o₁ head (proxiesText (chainOf p (decodeTable b .slots)))
       proxies-room = room-first o₁ head (proxiesText (chainOf p (decodeTable b .slots))) successTail after-head
@@ -198,5 +203,5 @@ module _ (b : List ℕ) (s : ℕ) (iou : List ℕ) (p : ℕ) (o : List ℕ) (h :
         tail-room = room-next o₁ o₂ head to (proxiesText (chainOf p (decodeTable b .slots))) successTail after-head v
 
         pub success-said : (o₃ : List ℕ) (n : ℕ) (r : Outcome) → Wrote o₂ to o₃ n successTail → r ≡ toldOf (answer.Xml true) n
-            → Said (Success (recAt s (decodeTable b .slots) .text) iou (chainOf p (decodeTable b .slots))) r o o₃
+            → Said (successOf s mark iou p (decodeTable b .slots)) r o o₃
         success-said o₃ n r u q = said-success (wrote-as (sym as-parts) (then w (then v u))) q

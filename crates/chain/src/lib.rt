@@ -2,11 +2,9 @@
 use protocol::Answer;
 use protocol::Outcome;
 ghost use mathlib.Core.Path.{_≡_};
-ghost use Prim.Native.Nat.{_≤_};
-ghost use lib.ListN.{length};
 ghost use Rattle.protocol.specs.Table.{decodeTable, recAt};
-ghost use Rattle.protocol.specs.Answers.{Success, proxyLines, proxiesText};
-ghost use Rattle.protocol.specs.Steps.{chainFrom, chainOf};
+ghost use Rattle.protocol.specs.Answers.{proxyLines, proxiesText};
+ghost use Rattle.protocol.specs.Steps.{chainFrom, chainOf, successOf};
 ghost use Rattle.protocol.specs.Written.{Room, Wrote};
 ghost use Rattle.protocol.specs.Held.{Lawful, Said};
 ghost use Rattle.chain.specs.Walk.{Walk, Within, Told};
@@ -50,19 +48,21 @@ fn put_proxies(table: &[u8], parent: usize, out: &mut [u8], at: usize) -> usize
     xml::put_proxies_close(out, end)
 }
 
-// Success: the user of a session, an IOU if it is not empty, and the proxies from a parent on.
+// Success by a ticket's mark: the user of a session, since when, an IOU if it is not empty, and the proxies from a parent on.
 pub fn say_success(
     table: &[u8],
     session: usize,
+    mark: u8,
     iou: &[u8],
     parent: usize,
     out: &mut [u8],
 ) -> Outcome
     requires { ⌜ Told (now table) session (now iou) parent (now out) ⌝ }
-    ensures { λ r. ⌜ Said (Success (recAt session (decodeTable (now (table .entry)) .slots) .text) (now (iou .entry)) (chainOf parent (decodeTable (now (table .entry)) .slots))) r (now (out .entry)) (now (out .exit)) ⌝ }
+    ensures { λ r. ⌜ Said (successOf session mark (now (iou .entry)) parent (decodeTable (now (table .entry)) .slots)) r (now (out .entry)) (now (out .exit)) ⌝ }
 {
     let user = table::text_of(table, session);
-    let head = xml::put_success_head(out, user, iou);
+    let since = table::since_of(table, session);
+    let head = xml::put_success_head(out, user, since, mark, iou);
     let to = put_proxies(table, parent, out, head);
     let n = xml::put_success_tail(out, to);
     reply::told(Answer::Xml(true), n)

@@ -10,8 +10,8 @@ use lib.ListN.{length, take}
 use Rattle.protocol.specs.Tickets.{aWaiting, iouText}
 use Rattle.protocol.specs.Records.{Rec, live}
 use Rattle.protocol.specs.Table.{Table, decodeTable, recAt}
-use Rattle.protocol.specs.Answers.{Success, Failure, InvalidTicket}
-use Rattle.protocol.specs.Steps.{put, remove, chainOf, granted, waitingSlot, finished, finishAt, finish}
+use Rattle.protocol.specs.Answers.{Failure, InvalidTicket}
+use Rattle.protocol.specs.Steps.{put, remove, granted, waitingSlot, finished, finishAt, finish, successOf}
 use Rattle.protocol.specs.Written.{Room, Wrote}
 use Rattle.protocol.specs.Held.{Lawful, In, Holds, Said, Done}
 use Rattle.protocol.specs.declared.Outcome.{Outcome}
@@ -37,13 +37,13 @@ module _ (b : List ℕ) (k : ℕ) (w : Waits k b) where
   waits-session = session-in b (w .lawful) k (omega (arith, w .kind))
 
   -- success may be told of it
-  module _ (iou o : List ℕ) (s p : ℕ) (es : s ≡ recAt k slots .session) (ep : p ≡ recAt k slots .parent) where
+  module _ (iou o : List ℕ) (s p m : ℕ) (es : s ≡ recAt k slots .session) (ep : p ≡ recAt k slots .parent) (em : m ≡ recAt k slots .mark) where
     pub tell-ready : length iou ≤ 64 → 8192 ≤ length o → Told b s iou p o
     tell-ready h m = record { lawful = w .lawful; user = rw es waits-session; above = rw ep (parent-within b (w .lawful) k); short = h; room = m }
 
-    pub tell-said : (o′ : List ℕ) (r : Outcome) → Said (Success (recAt s slots .text) iou (chainOf p slots)) r o o′
-        → Said (Success (recAt (recAt k slots .session) slots .text) iou (chainOf (recAt k slots .parent) slots)) r o o′
-    tell-said o′ r h = rw (es, ep) at h
+    pub tell-said : (o′ : List ℕ) (r : Outcome) → Said (successOf s m iou p slots) r o o′
+        → Said (successOf (recAt k slots .session) (recAt k slots .mark) iou (recAt k slots .parent) slots) r o o′
+    tell-said o′ r h = rw (es, ep, em) at h
 
   -- the IOU's text fits its scratch, and is read back from it
   pub iou-room : (d x : List ℕ) → x ≡ recAt k slots .iou → 64 ≤ length d → Room d 0 (iouText x)
@@ -54,7 +54,7 @@ module _ (b : List ℕ) (k : ℕ) (w : Waits k b) where
     iou-short = rw (read-back d d′ (iouText x) n v) (iou-most x (omega (arith, ap length e, fits-of b k (w .lawful .fine) .sized .iou)))
 
     -- yes
-    pub yes-done : (o o′ b′ : List ℕ) (r : Outcome) → Said (Success (recAt (recAt k slots .session) slots .text) (take n d′) (chainOf (recAt k slots .parent) slots)) r o o′
+    pub yes-done : (o o′ b′ : List ℕ) (r : Outcome) → Said (successOf (recAt k slots .session) (recAt k slots .mark) (take n d′) (recAt k slots .parent) slots) r o o′
         → Holds b′ (put k (granted (recAt k slots) slots) (decodeTable b))
         → Done (finished (recAt k slots) (iouText (recAt k slots .iou)) (decodeTable b) (put k (granted (recAt k slots) slots) (decodeTable b))) r b′ o o′
     unfolding finished
@@ -63,7 +63,7 @@ module _ (b : List ℕ) (k : ℕ) (w : Waits k b) where
         said-done g (rw q at h)
 
   -- no
-  pub no-done : (o o′ b′ : List ℕ) (r : Outcome) → Said (Success (recAt (recAt k slots .session) slots .text) [] (chainOf (recAt k slots .parent) slots)) r o o′
+  pub no-done : (o o′ b′ : List ℕ) (r : Outcome) → Said (successOf (recAt k slots .session) (recAt k slots .mark) [] (recAt k slots .parent) slots) r o o′
       → Holds b′ (remove k (decodeTable b)) → Done (finished (recAt k slots) [] (decodeTable b) (remove k (decodeTable b))) r b′ o o′
   unfolding finished
   no-done o o′ b′ r h g = said-done g h

@@ -2,25 +2,24 @@
 use find::Found;
 use protocol::Outcome;
 use xml::Code;
-ghost use mathlib.Core.Path.{_≡_};
 ghost use mathlib.Core.List.{[]};
 ghost use Prim.Native.Nat.{_≤_};
 ghost use lib.ListN.{length};
 ghost use Rattle.protocol.specs.Tickets.{iouText};
 ghost use Rattle.protocol.specs.Table.{decodeTable, recAt};
-ghost use Rattle.protocol.specs.Answers.{Success};
-ghost use Rattle.protocol.specs.Steps.{put, remove, chainOf, granted, finished, finishAt, finish};
+ghost use Rattle.protocol.specs.Steps.{put, remove, successOf, granted, finished, finishAt, finish};
 ghost use Rattle.protocol.specs.Held.{Lawful, Said, Done};
 ghost use Rattle.finish.specs.Waits.{Waits};
 
-// Success of the waiting grant in a slot: its session's user, an IOU if it is not empty, and the proxies from its parent on.
+// Success of the waiting grant in a slot: its session's user, by the mark that it keeps, an IOU if it is not empty, and the proxies from its parent on.
 fn tell(table: &[u8], slot: usize, iou: &[u8], out: &mut [u8]) -> Outcome
     requires { ⌜ (Waits slot (now table)) × (length (now iou) ≤ 64) × (8192 ≤ length (now out)) ⌝ }
-    ensures { λ r. ⌜ Said (Success (recAt (recAt slot (decodeTable (now (table .entry)) .slots) .session) (decodeTable (now (table .entry)) .slots) .text) (now (iou .entry)) (chainOf (recAt slot (decodeTable (now (table .entry)) .slots) .parent) (decodeTable (now (table .entry)) .slots))) r (now (out .entry)) (now (out .exit)) ⌝ }
+    ensures { λ r. ⌜ Said (successOf (recAt slot (decodeTable (now (table .entry)) .slots) .session) (recAt slot (decodeTable (now (table .entry)) .slots) .mark) (now (iou .entry)) (recAt slot (decodeTable (now (table .entry)) .slots) .parent) (decodeTable (now (table .entry)) .slots)) r (now (out .entry)) (now (out .exit)) ⌝ }
 {
     let session = table::session_of(table, slot) as usize;
     let parent = table::parent_of(table, slot) as usize;
-    chain::say_success(table, session, iou, parent, out)
+    let mark = table::mark_of(table, slot);
+    chain::say_success(table, session, mark, iou, parent, out)
 }
 
 // Yes, with room for the IOU's text: told, then a grant.

@@ -1,16 +1,16 @@
 -- The rules are kept where a record is added: it takes a free slot and the next serial. Assumes nothing.
-use mathlib.Core.Path.{_≡_, refl, sym, ap, _∙_}
+use mathlib.Core.Path.{_≡_, refl, sym}
 use mathlib.Core.Bool.{Bool, true, false, _&&_, _||_, not}
-use mathlib.Core.List.{List, [], _∷_, map}
+use mathlib.Core.List.{List, [], _∷_}
 use Prim.Native.Nat.{ℕ, zero, suc, _+_, _%_, _^_, _≤_, _<_}
 use native.Mathlib.Omega.{arith}
-use borrow.Author.Tests.{eq-eqb, ne-eqb, eqb-true, eqb-false, leb-true, le-leb, ltb-true, lt-ltb}
+use borrow.Author.Tests.{ne-eqb, eqb-true, eqb-false, leb-true, ltb-true, lt-ltb}
 use lib.Dec.{eqb, leb, ltb}
 use lib.ListN.{length, getD, set}
 use Rattle.protocol.specs.Bytes.{if}
 use Rattle.protocol.specs.Tickets.{aFree, aLogin}
-use Rattle.protocol.specs.Records.{Rec, freeRec, ownRight, fieldsRight, serialRight, expiryRight}
-use Rattle.protocol.specs.Table.{Table, tableOf, recAt, putAt, sessionRight, parentRight, allRight, slotFrom, slotWhere, serialTaken, serialsDiffer, countKind, loginCap}
+use Rattle.protocol.specs.Records.{Rec, freeRec, ownRight, fieldsRight, sinceRight, serialRight, expiryRight}
+use Rattle.protocol.specs.Table.{Table, recAt, putAt, allRight, slotFrom, slotWhere, serialTaken, serialsDiffer, countKind, loginCap}
 use Rattle.protocol.specs.Steps.{slotFor, roomFor, add}
 use Rattle.protocol.proofs.Laws.{both, recRight, right-cons, right-own, Rules}
 use Rattle.protocol.proofs.Kept.{right-all, right-slot, other-right, put-other, put-same, Unnamed, leaf-unnamed, recs3}
@@ -78,9 +78,9 @@ below-next c n r false h g e =
     let l : r .serial < n = ltb-true (r .serial) n (rw (ne-eqb n 0 (λ z. absurd (omega arith))) at (q .1)) in
     ne-eqb (r .serial) n (λ z. omega arith)
 
-own-life : (c n : ℕ) (r : Rec) → ownRight c n r ≡ true → (fieldsRight r ≡ true) × (if (eqb (r .kind) aFree) (eqb (r .serial) 0 && eqb (r .expiry) 0) (serialRight n (r .serial) && expiryRight c r) ≡ true)
+own-life : (c n : ℕ) (r : Rec) → ownRight c n r ≡ true → (fieldsRight r && sinceRight c r ≡ true) × (if (eqb (r .kind) aFree) (eqb (r .serial) 0 && eqb (r .expiry) 0) (serialRight n (r .serial) && expiryRight c r) ≡ true)
 unfolding ownRight
-own-life c n r e = both (fieldsRight r) (if (eqb (r .kind) aFree) (eqb (r .serial) 0 && eqb (r .expiry) 0) (serialRight n (r .serial) && expiryRight c r)) e
+own-life c n r e = both (fieldsRight r && sinceRight c r) (if (eqb (r .kind) aFree) (eqb (r .serial) 0 && eqb (r .expiry) 0) (serialRight n (r .serial) && expiryRight c r)) e
 
 pub fresh-serial : (c n : ℕ) (slots rs : List Rec) → allRight c n slots rs ≡ true → 1 ≤ n → serialTaken n rs ≡ false
 unfolding serialTaken

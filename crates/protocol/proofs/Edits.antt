@@ -1,9 +1,9 @@
 -- What the steps do to the table: every step is some edits, each a put, an added record or an ended session. So no step changes how
 -- many slots there are, and the next serial never falls. Assumes nothing.
-use mathlib.Core.Path.{_≡_, refl, sym, ap, _∙_}
+use mathlib.Core.Path.{_≡_, refl, _∙_}
 use mathlib.Core.Bool.{Bool, true, false, _&&_, _||_, not}
-use mathlib.Core.List.{List, [], _∷_, map}
-use Prim.Native.Nat.{ℕ, zero, suc, _+_, _%_, _^_, _≤_, _<_, max}
+use mathlib.Core.List.{List, [], map}
+use Prim.Native.Nat.{ℕ, suc, _+_, _%_, _^_, _≤_, _<_, max}
 use native.Mathlib.Omega.{arith}
 use borrow.Author.Tests.{eqb-true, eqb-false, ne-eqb, leb-true, ltb-true}
 use lib.Dec.{eqb, leb, ltb}
@@ -11,18 +11,18 @@ use lib.ListN.{length, length-map}
 use Rattle.protocol.specs.Bytes.{if, isEmpty, same}
 use Rattle.protocol.specs.Tickets.{aFree, aLogin, aSession, aService, aProxy, aWaiting, aGrant, deepest, iouText}
 use Rattle.protocol.specs.Records.{Rec, freeRec, nameOf, ownRight, serialRight, expiryRight}
-use Rattle.protocol.specs.Table.{Table, tableOf, recAt, putAt, countKind, loginCap}
+use Rattle.protocol.specs.Table.{Table, recAt, countKind, loginCap}
 use Rattle.protocol.specs.Register.{registered, callbackOf}
 use Rattle.protocol.specs.Request.{loginNames, logoutNames, proxyNames, validatorNames, bodyNames, malformed, fromQuery, fromBody, present}
-use Rattle.protocol.specs.Answers.{Reply, ErrorPage, SignedIn, SignedOut, RedirectTo, YesNo, Success, Failure, ProxyFailure, InvalidRequest, InvalidTicket, InvalidService, BadPgt, UnauthorizedService, InternalError}
-use Rattle.protocol.specs.Steps.{Brought, Step, step, clearRec, endRec, tick, put, remove, endSession, slotNamed, sessionOf, ticketSlot, slotFor, roomFor, newRec, add, formWith, formStep, ticketWith, ticketStep, signedOn, loginPage, unknownService, loginGet, admitted, newSession, needs, issueAll, accepted, credentials, loginTicket, loginPost, failed, isPlain, takesProxies, proxyParent, waitingWith, waitingStep, grants, acceptTicket, judgeTicket, presented, validate, granted, waitingSlot, finished, finishAt, finish, proxyWith, proxyBy, proxy, chainOf, linkTo, logout, requestStep}
+use Rattle.protocol.specs.Answers.{ErrorPage, SignedIn, SignedOut, RedirectTo, YesNo, Failure, ProxyFailure, InvalidRequest, InvalidTicket, InvalidService, BadPgt, UnauthorizedService, InternalError}
+use Rattle.protocol.specs.Steps.{Brought, Step, step, clearRec, endRec, tick, put, remove, endSession, slotNamed, sessionOf, ticketSlot, slotFor, roomFor, newRec, add, formWith, formStep, ticketWith, ticketStep, signedOn, loginPage, unknownService, loginGet, admitted, newSession, needs, issueAll, accepted, credentials, loginTicket, loginPost, failed, isPlain, takesProxies, proxyParent, waitingWith, waitingStep, grants, acceptTicket, judgeTicket, presented, validate, granted, waitingSlot, finished, finishAt, finish, proxyWith, proxyBy, proxy, linkTo, logout, requestStep, successOf}
 use Rattle.protocol.specs.declared.Method.{Method}
 use Rattle.protocol.specs.declared.Method.the-variants as method
 use Rattle.protocol.specs.declared.Path.{Path}
 use Rattle.protocol.specs.declared.Path.the-variants as path
 use Rattle.protocol.specs.declared.Validator.{Validator}
 use Rattle.protocol.specs.declared.Validator.the-variants as validator
-use Rattle.protocol.proofs.Laws.{both, Own, own}
+use Rattle.protocol.proofs.Laws.{both, own}
 use Rattle.protocol.proofs.Sound.{length-put}
 
 -- edits one after the other; a record is added only while a serial is left
@@ -164,10 +164,10 @@ module _ (v : Validator) (q : List ℕ) (g : Brought) (r : Rec) (t : Table) wher
   url = fromQuery "pgtUrl" q
 
   waiting : Rec
-  waiting = newRec aWaiting 0 (proxyParent r) (r .session) (recAt (proxyParent r) (t .slots) .depth + 1) url (g .random) t
+  waiting = newRec aWaiting (r .mark) (proxyParent r) (r .session) (recAt (proxyParent r) (t .slots) .depth + 1) url (g .random) t
 
   told : Step
-  told = step t (Success (recAt (r .session) (t .slots) .text) [] (chainOf (proxyParent r) (t .slots)))
+  told = step t (successOf (r .session) (r .mark) [] (proxyParent r) (t .slots))
 
   accept-edits : Edits t (acceptTicket v r url g t .table)
   unfolding acceptTicket waitingStep waitingWith grants url waiting told

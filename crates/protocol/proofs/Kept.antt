@@ -4,21 +4,21 @@ use mathlib.Core.Bool.{Bool, true, false, _&&_, _||_, not}
 use mathlib.Core.List.{List, [], _∷_, map}
 use Prim.Native.Nat.{ℕ, zero, suc, _+_, _≤_, _<_, max}
 use native.Mathlib.Omega.{arith}
-use borrow.Author.Tests.{eq-eqb, ne-eqb, eqb-true, eqb-false, leb-true, le-leb, ltb-true, ltb-false, lt-ltb}
+use borrow.Author.Tests.{ne-eqb, eqb-true, eqb-false, leb-true, le-leb, ltb-true, ltb-false, lt-ltb}
 use lib.Dec.{eqb, leb, ltb}
-use lib.ListN.{length, getD, drop, set, List·getD-map}
+use lib.ListN.{length, getD, set}
 use Rattle.protocol.specs.Bytes.{if}
-use Rattle.protocol.specs.Tickets.{aFree, aLogin, aSession, aService, aProxy, aGrant, lifetime, secretLength, markMost, depthLeast, depthMost, textLeast, textMost}
-use Rattle.protocol.specs.Records.{Rec, freeRec, live, ownRight, fieldsRight, textRight, serialRight, expiryRight}
+use Rattle.protocol.specs.Tickets.{aFree, aSession, aService, aProxy, aGrant, lifetime, markMost, depthLeast, depthMost, textLeast, textMost}
+use Rattle.protocol.specs.Records.{Rec, freeRec, live, ownRight, fieldsRight, sinceRight, textRight, serialRight, expiryRight}
 use Rattle.protocol.specs.Bytes.{allWithin}
-use Rattle.protocol.specs.Table.{Table, tableOf, recAt, putAt, sessionRight, parentRight, grantRight, allRight, serialTaken, serialsDiffer, countKind, rulesHold, lastTime, loginCap}
+use Rattle.protocol.specs.Table.{Table, tableOf, recAt, putAt, sessionRight, parentRight, grantRight, allRight, serialTaken, serialsDiffer, countKind, lastTime}
 use lib.Seq.{getD-set-other, getD-set-same}
 use Rattle.protocol.specs.Steps.{clearRec, endRec, tick, remove, endSession}
 use Rattle.protocol.proofs.Laws.{both, recRight, right-cons, Rules, rules}
 
 -- a free record keeps every rule
 pub free-right : (c n : ℕ) (slots : List Rec) → recRight c n slots freeRec ≡ true
-unfolding ownRight fieldsRight textRight markMost depthLeast depthMost textLeast textMost allWithin sessionRight parentRight
+unfolding ownRight fieldsRight sinceRight textRight markMost depthLeast depthMost textLeast textMost allWithin sessionRight parentRight
 free-right c n slots = refl
 
 -- the rules, record by record
@@ -89,11 +89,16 @@ later false a s c c′ r o l h =
     let m : leb (r .expiry) (c′ + lifetime (r .kind)) ≡ true = le-leb (r .expiry) (c′ + lifetime (r .kind)) (omega (arith, leb-true (r .expiry) (c + lifetime (r .kind)) (q .1))) in
     rw (p .0, l, m)
 
+since-later : (z : Bool) (c c′ m : ℕ) → c ≤ c′ → if z (leb m c) (eqb m 0) ≡ true → if z (leb m c′) (eqb m 0) ≡ true
+since-later true c c′ m o h = le-leb m c′ (omega (arith, leb-true m c h))
+since-later false c c′ m o h = h
+
 pub own-later : (c c′ n : ℕ) (r : Rec) → c ≤ c′ → live c′ r ≡ true → ownRight c n r ≡ true → ownRight c′ n r ≡ true
-unfolding ownRight
+unfolding ownRight sinceRight
 own-later c c′ n r o l h =
-    let p = both (fieldsRight r) (if (eqb (r .kind) aFree) (eqb (r .serial) 0 && eqb (r .expiry) 0) (serialRight n (r .serial) && expiryRight c r)) h in
-    rw (p .0) (later (eqb (r .kind) aFree) (eqb (r .serial) 0 && eqb (r .expiry) 0) (serialRight n (r .serial)) c c′ r o l (p .1))
+    let p = both (fieldsRight r && sinceRight c r) (if (eqb (r .kind) aFree) (eqb (r .serial) 0 && eqb (r .expiry) 0) (serialRight n (r .serial) && expiryRight c r)) h in
+    let f = both (fieldsRight r) (sinceRight c r) (p .0) in
+    rw (f .0, since-later (eqb (r .kind) aSession) c c′ (r .since) o (f .1)) (later (eqb (r .kind) aFree) (eqb (r .serial) 0 && eqb (r .expiry) 0) (serialRight n (r .serial)) c c′ r o l (p .1))
 
 -- What the session rule says of a record: it names none, or one that lasts as long
 pub data SessionView (slots : List Rec) (r : Rec) : Type 0 where

@@ -12,8 +12,8 @@ use lib.ListN.{length, take, drop, getD, length-append, length-drop, length-repl
 use lib.Seq.{take-at, drop-at, length-take-le, drop-cons}
 use Rattle.protocol.specs.Bytes.{if, same, within, allWithin, zeros, padTo, part, num, leOf, bytesOf, joined, blocks}
 use Rattle.protocol.specs.Blocks.{sealed, houseCheck}
-use Rattle.protocol.specs.Records.{Rec, recBody, encodeRec, decodeRec, textRight, fieldsRight, serialRight, expiryRight, ownRight}
-use Rattle.protocol.specs.Tickets.{markMost, depthLeast, depthMost, textLeast, textMost, aFree, aLogin, aWaiting, secretLength}
+use Rattle.protocol.specs.Records.{Rec, recBody, encodeRec, decodeRec, textRight, fieldsRight, sinceRight, serialRight, expiryRight, ownRight}
+use Rattle.protocol.specs.Tickets.{markMost, depthLeast, depthMost, textLeast, textMost, aFree, aLogin, aSession, aWaiting, secretLength}
 use Rattle.protocol.specs.Held.{Sized, Fits, AllFit}
 use Rattle.protocol.specs.Table.{Table, headBody, encodeTable, decodeTable, tableLawful, rulesHold, allRight, sessionRight, parentRight, serialsDiffer, countKind, loginCap, lastTime}
 
@@ -109,16 +109,16 @@ module _ (r : Rec) (f : Sized r) where
   length-rec = length-sealed (recBody r) length-body
 
   -- its bytes, regrouped
-  laid : (z : List ℕ) → recBody r ++ z ≡ first24 r ++ (padTo 16 (r .secret) ++ (bytesOf 2 (length (r .text)) ++ (zeros 2 ++ (padTo 212 (r .text) ++ (padTo 16 (r .iou) ++ (zeros 236 ++ z))))))
+  laid : (z : List ℕ) → recBody r ++ z ≡ first24 r ++ (padTo 16 (r .secret) ++ (bytesOf 2 (length (r .text)) ++ (zeros 2 ++ (padTo 212 (r .text) ++ (padTo 16 (r .iou) ++ (bytesOf 8 (r .since) ++ (zeros 228 ++ z)))))))
   unfolding recBody
   laid z = simp append-assoc
 
   -- from the secret on
   abbrev behind : List ℕ → List ℕ
-  behind z = r .text ++ (zeros (212 - length (r .text)) ++ (r .iou ++ (zeros 236 ++ z)))
+  behind z = r .text ++ (zeros (212 - length (r .text)) ++ (r .iou ++ (bytesOf 8 (r .since) ++ (zeros 228 ++ z))))
 
-  from44 : (z : List ℕ) → padTo 212 (r .text) ++ (padTo 16 (r .iou) ++ (zeros 236 ++ z)) ≡ behind z
-  from44 z = rw (pad-full 16 (r .iou) (f .iou)) (append-assoc (r .text) (zeros (212 - length (r .text))) (r .iou ++ (zeros 236 ++ z)))
+  from44 : (z : List ℕ) → padTo 212 (r .text) ++ (padTo 16 (r .iou) ++ (bytesOf 8 (r .since) ++ (zeros 228 ++ z))) ≡ behind z
+  from44 z = rw (pad-full 16 (r .iou) (f .iou)) (append-assoc (r .text) (zeros (212 - length (r .text))) (r .iou ++ (bytesOf 8 (r .since) ++ (zeros 228 ++ z))))
 
   abbrev check : List ℕ
   check = bytesOf 4 (houseCheck (recBody r))
@@ -166,10 +166,17 @@ module _ (r : Rec) (f : Sized r) where
   length256 : length first256 ≡ 256
   length256 = rw (length-append first44 (r .text ++ zeros (212 - length (r .text))), length-append (r .text) (zeros (212 - length (r .text))), length-replicate {A = ℕ} (212 - length (r .text)) 0) (omega (arith, length44, f .text))
 
+  at256 : encodeRec r ≡ first256 ++ (r .iou ++ (bytesOf 8 (r .since) ++ (zeros 228 ++ check)))
+  at256 = at44 ∙ simp append-assoc
+
   iou-back : part 256 16 (encodeRec r) ≡ r .iou
-  iou-back =
-      let e : encodeRec r ≡ first256 ++ (r .iou ++ (zeros 236 ++ check)) = at44 ∙ simp append-assoc in
-      rw e (part-mid first256 (r .iou) (zeros 236 ++ check) 256 16 length256 (f .iou))
+  iou-back = rw at256 (part-mid first256 (r .iou) _ 256 16 length256 (f .iou))
+
+  since-read : num 272 8 (encodeRec r) ≡ leOf (bytesOf 8 (r .since))
+  since-read =
+      let e : encodeRec r ≡ (first256 ++ r .iou) ++ (bytesOf 8 (r .since) ++ (zeros 228 ++ check)) = at256 ∙ sym (append-assoc first256 (r .iou) _) in
+      let l : length (first256 ++ r .iou) ≡ 272 = rw (length-append first256 (r .iou)) (omega (arith, length256, f .iou)) in
+      ap leOf (rw e (part-mid (first256 ++ r .iou) (bytesOf 8 (r .since)) (zeros 228 ++ check) 272 8 l (length-bytes 8 (r .since))))
 
 module _ (r : Rec) where
   -- its numbers, as their bytes spell them
@@ -199,7 +206,7 @@ module _ (r : Rec) where
   rec-back f =
       let s = single-back in
       let z = f .sized in
-      rw (text-back r z, s .0, s .1, s .2, parent-read, le-bytes 2 (r .parent) (f .parent), session-read, le-bytes 2 (r .session) (f .session), serial-read, le-bytes 4 (r .serial) (f .serial), expiry-read, le-bytes 8 (r .expiry) (f .expiry), secret-back r z, iou-back r z)
+      rw (text-back r z, s .0, s .1, s .2, parent-read, le-bytes 2 (r .parent) (f .parent), session-read, le-bytes 2 (r .session) (f .session), serial-read, le-bytes 4 (r .serial) (f .serial), expiry-read, le-bytes 8 (r .expiry) (f .expiry), secret-back r z, iou-back r z, since-read r z, le-bytes 8 (r .since) (f .since))
 
   -- a block that is its own record's has numbers that fit
   pub fits-read : (b : List ℕ) → r ≡ decodeRec b → b ≡ encodeRec r → Sized r → Fits r
@@ -209,11 +216,13 @@ module _ (r : Rec) where
       let s : r .session ≡ leOf (bytesOf 2 (r .session)) = ap (λ (x : Rec). x .session) d ∙ ap (λ (l : List ℕ). num 4 2 l) e ∙ session-read in
       let n : r .serial ≡ leOf (bytesOf 4 (r .serial)) = ap (λ (x : Rec). x .serial) d ∙ ap (λ (l : List ℕ). num 8 4 l) e ∙ serial-read in
       let x : r .expiry ≡ leOf (bytesOf 8 (r .expiry)) = ap (λ (x : Rec). x .expiry) d ∙ ap (λ (l : List ℕ). num 16 8 l) e ∙ expiry-read in
+      let y : r .since ≡ leOf (bytesOf 8 (r .since)) = ap (λ (x : Rec). x .since) d ∙ ap (λ (l : List ℕ). num 272 8 l) e ∙ since-read r z in
       record {
         parent = omega (arith, le-below 2 (r .parent));
         session = omega (arith, le-below 2 (r .session));
         serial = omega (arith, le-below 4 (r .serial));
         expiry = omega (arith, le-below 8 (r .expiry));
+        since = omega (arith, le-below 8 (r .since));
         sized = z;
       }
 
@@ -278,6 +287,17 @@ lawful-written t f h k e = rw (table-back t f h k, same-refl (encodeTable t), e)
 
 -- A lawful table fits
 
+pub mark-most : (k : ℕ) → markMost k ≤ 1
+unfolding markMost
+mark-most zero = omega arith
+mark-most (suc zero) = omega arith
+mark-most (suc (suc zero)) = omega arith
+mark-most (suc (suc (suc zero))) = omega arith
+mark-most (suc (suc (suc (suc zero)))) = omega arith
+mark-most (suc (suc (suc (suc (suc zero))))) = omega arith
+mark-most (suc (suc (suc (suc (suc (suc zero)))))) = omega arith
+mark-most (suc (suc (suc (suc (suc (suc (suc k))))))) = omega arith
+
 pub text-most : (k : ℕ) → textMost k ≤ 200
 unfolding textMost
 text-most zero = omega arith
@@ -306,13 +326,19 @@ pub record Own (clock next : ℕ) (r : Rec) : Type 0 where
   pub deep : r .depth ≤ depthMost (r .kind)
   pub text : length (r .text) ≤ textMost (r .kind)
   pub some : textLeast (r .kind) ≤ length (r .text)
+  pub since : r .since ≤ clock
   pub life : (if (eqb (r .kind) aFree) (eqb (r .serial) 0 && eqb (r .expiry) 0) (serialRight next (r .serial) && expiryRight clock r)) ≡ true
 
+since-most : (z : Bool) (c m : ℕ) → if z (leb m c) (eqb m 0) ≡ true → m ≤ c
+since-most true c m h = leb-true m c h
+since-most false c m h = omega (arith, eqb-true m 0 h)
+
 pub own : (c n : ℕ) (r : Rec) → ownRight c n r ≡ true → Own c n r
-unfolding ownRight fieldsRight textRight
+unfolding ownRight fieldsRight sinceRight textRight
 own c n r h =
     let life : Bool = if (eqb (r .kind) aFree) (eqb (r .serial) 0 && eqb (r .expiry) 0) (serialRight n (r .serial) && expiryRight c r) in
-    let fields = both (fieldsRight r) life h in
+    let whole = both (fieldsRight r && sinceRight c r) life h in
+    let fields = both (fieldsRight r) (sinceRight c r) (whole .0) in
     let iou = both (leb (r .kind) 6 && leb (r .mark) (markMost (r .kind)) && within (depthLeast (r .kind)) (depthMost (r .kind)) (r .depth) && allWithin 0 0 (drop (secretLength (r .kind)) (r .secret)) && textRight r) (if (eqb (r .kind) aWaiting) true (allWithin 0 0 (r .iou))) (fields .0) in
     let f = both5 (leb (r .kind) 6) (leb (r .mark) (markMost (r .kind))) (within (depthLeast (r .kind)) (depthMost (r .kind)) (r .depth)) (allWithin 0 0 (drop (secretLength (r .kind)) (r .secret))) (textRight r) (iou .0) in
     let d = both (leb (depthLeast (r .kind)) (r .depth)) (leb (r .depth) (depthMost (r .kind))) (f .2) in
@@ -325,7 +351,8 @@ own c n r h =
       deep = leb-true (r .depth) (depthMost (r .kind)) (d .1);
       text = leb-true (length (r .text)) (textMost (r .kind)) (w .1);
       some = leb-true (textLeast (r .kind)) (length (r .text)) (w .0);
-      life = fields .1;
+      since = since-most (eqb (r .kind) aSession) c (r .since) (fields .1);
+      life = whole .1;
     }
 
 pub own-text : (c n : ℕ) (r : Rec) → ownRight c n r ≡ true → length (r .text) ≤ 200

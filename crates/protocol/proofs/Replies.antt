@@ -1,27 +1,26 @@
 -- Every step's answer is small, so it fits the output, and its cookie fits the cookie output. Assumes nothing.
-use mathlib.Core.Path.{_≡_, refl, sym, ap, _∙_}
+use mathlib.Core.Path.{_≡_, refl, ap}
 use mathlib.Core.Bool.{Bool, true, false, _&&_, _||_, not}
-use mathlib.Core.List.{List, [], _∷_, map}
-use Prim.Native.Nat.{ℕ, zero, suc, _+_, _≤_, _<_}
+use mathlib.Core.List.{List, []}
+use Prim.Native.Nat.{ℕ, zero, suc, _+_, _≤_}
 use native.Mathlib.Omega.{arith}
 use borrow.Author.Tests.{leb-true}
 use lib.Dec.{eqb, leb, ltb}
 use lib.ListN.{length}
 use Rattle.protocol.specs.Bytes.{if, ascii, isEmpty, same, among, allWithin}
 use Rattle.protocol.specs.Tickets.{aLogin, aSession, aService, aProxy, aWaiting, aGrant, iouFrom, iouText, depthMost, deepest}
-use Rattle.protocol.specs.Records.{Rec, freeRec, nameOf}
-use Rattle.protocol.specs.Table.{Table, tableOf, recAt, putAt, countKind, loginCap}
-use Rattle.protocol.specs.Register.{Entry, registered}
+use Rattle.protocol.specs.Records.{Rec, nameOf}
+use Rattle.protocol.specs.Table.{Table, recAt, countKind, loginCap}
+use Rattle.protocol.specs.Register.{registered}
 use Rattle.protocol.specs.Request.{loginNames, logoutNames, proxyNames, validatorNames, bodyNames, malformed, badName, valueRight, valueMost, charsRight, valueOf, fromQuery, fromBody, present}
-use Rattle.protocol.specs.Answers.{Code, Reply, ErrorPage, SignedIn, SignedOut, FormPage, RedirectTo, YesNo, Success, Failure, ProxySuccess, ProxyFailure, CallbackTo, InvalidRequest, InvalidTicket, InvalidService, BadPgt, UnauthorizedService, InternalError, replyText}
-use Rattle.protocol.specs.Steps.{Brought, Step, step, put, remove, endSession, slotNamed, sessionOf, ticketSlot, slotFor, roomFor, newRec, add, chainFrom, chainOf, formWith, formStep, ticketWith, ticketStep, signedOn, loginPage, unknownService, loginGet, admitted, newSession, needs, issueAll, accepted, credentials, loginTicket, loginPost, failed, isPlain, takesProxies, proxyParent, waitingWith, waitingStep, grants, acceptTicket, judgeTicket, presented, validate, granted, waitingSlot, finished, finishAt, finish, proxyWith, proxyBy, proxy, linkTo, logout, requestStep}
+use Rattle.protocol.specs.Answers.{Code, Reply, ErrorPage, SignedIn, SignedOut, FormPage, RedirectTo, YesNo, Failure, ProxySuccess, ProxyFailure, CallbackTo, InvalidRequest, InvalidTicket, InvalidService, BadPgt, UnauthorizedService, InternalError}
+use Rattle.protocol.specs.Steps.{Brought, Step, step, put, remove, endSession, slotNamed, sessionOf, ticketSlot, slotFor, roomFor, newRec, add, chainFrom, chainOf, formWith, formStep, ticketWith, ticketStep, signedOn, loginPage, unknownService, loginGet, admitted, newSession, needs, issueAll, accepted, credentials, loginTicket, loginPost, failed, isPlain, takesProxies, proxyParent, waitingWith, waitingStep, grants, acceptTicket, judgeTicket, presented, validate, granted, waitingSlot, finished, finishAt, finish, proxyWith, proxyBy, proxy, linkTo, logout, requestStep, successOf}
 use Rattle.protocol.specs.declared.Method.{Method}
 use Rattle.protocol.specs.declared.Method.the-variants as method
 use Rattle.protocol.specs.declared.Path.{Path}
 use Rattle.protocol.specs.declared.Path.the-variants as path
 use Rattle.protocol.specs.declared.Validator.{Validator}
 use Rattle.protocol.specs.declared.Validator.the-variants as validator
-use Rattle.protocol.specs.Held.{Fits}
 use Rattle.protocol.proofs.Laws.{both}
 use Rattle.protocol.proofs.Sound.{Sound, fit-slot, part-full}
 use Rattle.protocol.proofs.StepSound.{query-service, body-values, or-both, good-value, nonzero}
@@ -67,11 +66,11 @@ module _ (t : Table) (s : Sound t) where
   depth-most (suc (suc (suc (suc (suc (suc zero)))))) = omega arith
   depth-most (suc (suc (suc (suc (suc (suc (suc k))))))) = omega arith
 
-  pub success-fits : (t′ : Table) (k p : ℕ) (iou : List ℕ) → length iou ≤ 64 → Fitting (step t′ (Success (recAt k (t .slots) .text) iou (chainOf p (t .slots))))
+  pub success-fits : (t′ : Table) (k m p : ℕ) (iou : List ℕ) → length iou ≤ 64 → Fitting (step t′ (successOf k m iou p (t .slots)))
   unfolding chainOf
-  success-fits t′ k p iou h =
-      plain t′ (Success (recAt k (t .slots) .text) iou (chainOf p (t .slots)))
-      (success (recAt k (t .slots) .text) iou (chainOf p (t .slots)) (text-most k) h
+  success-fits t′ k m p iou h =
+      plain t′ (successOf k m iou p (t .slots))
+      (success (recAt k (t .slots) .text) (recAt k (t .slots) .since) m iou (chainOf p (t .slots)) (text-most k) h
       (omega (arith, chain-length (recAt p (t .slots) .depth) p (t .slots), owned t s p .deep, depth-most (recAt p (t .slots) .kind))) (chain-short (recAt p (t .slots) .depth) p))
 
 -- login
@@ -237,7 +236,7 @@ module _ (p : Validator) (q : List ℕ) (g : Brought) (h : length (g .random) �
   waiting-fits : (t : Table) (r : Rec) → Sound t → length url ≤ 200 → Fitting (waitingStep r url (g .random) t)
   unfolding waitingStep waitingWith newRec iouFrom
   waiting-fits t r s u =
-      let w : Rec = newRec aWaiting 0 (proxyParent r) (r .session) (recAt (proxyParent r) (t .slots) .depth + 1) url (g .random) t in
+      let w : Rec = newRec aWaiting (r .mark) (proxyParent r) (r .session) (recAt (proxyParent r) (t .slots) .depth + 1) url (g .random) t in
       plain (add w t) (CallbackTo (w .text) (nameOf w) (iouText (w .iou)) (w .serial)) (call (w .text) (nameOf w) (iouText (w .iou)) (w .serial) u (name-most w) (iou-most (w .iou) (omega (arith, part-full 16 16 (g .random) (omega arith)))))
 
   accept-fits : (t : Table) (r : Rec) → Sound t → Fitting (acceptTicket p r url g t)
@@ -245,10 +244,10 @@ module _ (p : Validator) (q : List ℕ) (g : Brought) (h : length (g .random) �
   accept-fits t r s =
       case-fits (isPlain p) (step t (YesNo true)) (if (grants r url g t) (waitingStep r url (g .random) t) other)
       (λ e. plain t (YesNo true) (word true))
-      (λ n. case-fits (grants r url g t) (waitingStep r url (g .random) t) other (λ e. waiting-fits t r s (good n .0)) (λ e. success-fits t s t (r .session) (proxyParent r) [] (omega arith)))
+      (λ n. case-fits (grants r url g t) (waitingStep r url (g .random) t) other (λ e. waiting-fits t r s (good n .0)) (λ e. success-fits t s t (r .session) (r .mark) (proxyParent r) [] (omega arith)))
     where
       other : Step
-      other = step t (Success (recAt (r .session) (t .slots) .text) [] (chainOf (proxyParent r) (t .slots)))
+      other = step t (successOf (r .session) (r .mark) [] (proxyParent r) (t .slots))
 
   judge-fits : (t : Table) (r : Rec) → Sound t → Fitting (judgeTicket p r q g t)
   unfolding judgeTicket
@@ -287,8 +286,8 @@ finish-fits serial outcome t s =
     case-fits (eqb k 0) (step t (Failure InvalidTicket)) (if outcome (finished r (iouText (r .iou)) t granted-table) (finished r [] t (remove k t)))
     (λ e. plain t (Failure InvalidTicket) (failure InvalidTicket))
     (λ e. case-fits outcome (finished r (iouText (r .iou)) t granted-table) (finished r [] t (remove k t))
-    (λ e. success-fits t s granted-table (r .session) (r .parent) (iouText (r .iou)) (iou-most (r .iou) (omega (arith, fit-slot (t .slots) k (s .fit) .sized .iou))))
-    (λ e. success-fits t s (remove k t) (r .session) (r .parent) [] (omega arith)))
+    (λ e. success-fits t s granted-table (r .session) (r .mark) (r .parent) (iouText (r .iou)) (iou-most (r .iou) (omega (arith, fit-slot (t .slots) k (s .fit) .sized .iou))))
+    (λ e. success-fits t s (remove k t) (r .session) (r .mark) (r .parent) [] (omega arith)))
   where
     k : ℕ
     k = waitingSlot serial t

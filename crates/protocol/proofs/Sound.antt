@@ -1,22 +1,22 @@
 -- A sound table: the rules, and fields that can hold what they are given. The edits keep it so. Assumes nothing.
-use mathlib.Core.Path.{_≡_, refl, sym, ap, _∙_}
-use mathlib.Core.Bool.{Bool, true, false, _&&_, _||_, not}
-use mathlib.Core.List.{List, [], _∷_, _++_, map}
-use Prim.Native.Nat.{ℕ, zero, suc, _+_, _-_, _*_, _%_, _^_, _≤_, _<_, min, max}
+use mathlib.Core.Path.{_≡_, refl}
+use mathlib.Core.Bool.{Bool, true, false}
+use mathlib.Core.List.{List, [], _∷_, map}
+use Prim.Native.Nat.{ℕ, zero, suc, _+_, _-_, _%_, _≤_, _<_, min, max}
 use native.Mathlib.Omega.{arith}
-use borrow.Author.Tests.{eq-eqb, ne-eqb, eqb-true, eqb-false, leb-true, le-leb, ltb-true, lt-ltb}
+use borrow.Author.Tests.{eqb-false, le-leb, lt-ltb}
 use lib.Dec.{eqb, leb, ltb}
-use lib.ListN.{length, take, drop, getD, set, length-set, length-map, length-take, length-drop, length-replicate, length-append}
-use lib.Seq.{drop-at, drop-length, length-take-le}
-use Rattle.protocol.specs.Bytes.{if, same, within, allWithin, zeros, padTo, part}
-use Rattle.protocol.specs.Tickets.{aFree, aLogin, aSession, aService, aProxy, aWaiting, aGrant, lifetime, secretLength, secretFrom, iouFrom, markMost, depthLeast, depthMost, textLeast, textMost, deepest}
-use Rattle.protocol.specs.Records.{Rec, freeRec, live, ownRight, fieldsRight, textRight, serialRight, expiryRight}
-use Rattle.protocol.specs.Table.{Table, tableOf, recAt, putAt, sessionRight, parentRight, grantRight, allRight, encodeTable, tableLawful, countKind, loginCap, lastTime}
-use Rattle.protocol.specs.Steps.{clearRec, endRec, tick, put, remove, endSession, slotFor, roomFor, expiryFor, newRec, add}
-use Rattle.protocol.specs.Held.{Sized, Fits, AllFit}
-use Rattle.protocol.proofs.Laws.{both, length-pad, pad-full, recRight, Rules, rules, rules-hold, lawful-written}
-use Rattle.protocol.proofs.Kept.{SessionView, ParentView, session-view, parent-view, recs3, right-slot, same-links, put-other, Unnamed, tick-rules, remove-rules, end-rules}
-use Rattle.protocol.proofs.Added.{Room, room-one, add-rules}
+use lib.ListN.{length, drop, getD, set, length-set, length-map, length-take, length-drop}
+use lib.Seq.{drop-at, length-take-le}
+use Rattle.protocol.specs.Bytes.{if, allWithin, zeros, padTo, part}
+use Rattle.protocol.specs.Tickets.{aFree, aLogin, aSession, aWaiting, lifetime, secretLength, secretFrom, iouFrom, markMost, depthLeast, depthMost, textLeast, textMost, sinceFrom}
+use Rattle.protocol.specs.Records.{Rec, freeRec, live, ownRight, fieldsRight, textRight, serialRight, expiryRight, sinceRight}
+use Rattle.protocol.specs.Table.{Table, recAt, putAt, encodeTable, tableLawful, countKind, loginCap, lastTime}
+use Rattle.protocol.specs.Steps.{clearRec, endRec, tick, remove, endSession, slotFor, expiryFor, newRec, add}
+use Rattle.protocol.specs.Held.{Fits, AllFit}
+use Rattle.protocol.proofs.Laws.{length-pad, recRight, Rules, rules, rules-hold, lawful-written}
+use Rattle.protocol.proofs.Kept.{Unnamed, tick-rules, remove-rules, end-rules}
+use Rattle.protocol.proofs.Added.{Room, add-rules}
 
 pub record Sound (t : Table) : Type 0 where
   pub rules : Rules t
@@ -29,7 +29,7 @@ pub sound-lawful : (t : Table) → Sound t → tableLawful (encodeTable t) ≡ t
 sound-lawful t s = lawful-written t (s .fit) (omega (arith, s .rules .clock)) (omega (arith, s .next)) (rules-hold t (s .rules))
 
 pub free-fits : Fits freeRec
-free-fits = record { parent = omega arith; session = omega arith; serial = omega arith; expiry = omega arith; sized = record { secret = refl; text = omega arith; iou = refl } }
+free-fits = record { parent = omega arith; session = omega arith; serial = omega arith; expiry = omega arith; since = omega arith; sized = record { secret = refl; text = omega arith; iou = refl } }
 
 fit-map : (f : Rec → Rec) → ((r : Rec) → Fits r → Fits (f r)) → (rs : List Rec) → AllFit rs → AllFit (map f rs)
 unfolding AllFit
@@ -140,15 +140,20 @@ iou-full : (z : Bool) (s : List ℕ) → length s ≡ 48 → length (if z (part 
 iou-full true s h = part-full 16 16 s (omega arith)
 iou-full false s h = refl
 
+since-low : (z : Bool) (c : ℕ) → if z c 0 ≤ c
+since-low true c = omega arith
+since-low false c = omega arith
+
 pub new-fits : (kind mark parent session depth : ℕ) (text random : List ℕ) (t : Table) → parent < 65536 → session < 65536 → length text ≤ 200 → length random ≡ 48 → Sound t
     → Fits (newRec kind mark parent session depth text random t)
-unfolding newRec expiryFor secretFrom iouFrom
+unfolding newRec expiryFor secretFrom iouFrom sinceFrom
 new-fits kind mark parent session depth text random t hp hs ht hr s =
     record {
       parent = hp;
       session = hs;
       serial = s .next;
       expiry = omega (arith, expiry-most (eqb session 0) (t .clock + lifetime kind) (recAt session (t .slots) .expiry), lifetime-most kind, s .rules .clock);
+      since = omega (arith, since-low (eqb kind aSession) (t .clock), s .rules .clock);
       sized = record { secret = length-pad 16 (secretFrom kind random) (secret-most (eqb (secretLength kind) 9) random); text = ht; iou = iou-full (eqb kind aWaiting) random hr };
     }
 
@@ -206,11 +211,15 @@ expiry-new : (z : Bool) (c l x : ℕ) → 1 ≤ l → (z ≡ false → c < x) �
 expiry-new true c l x h g = omega arith
 expiry-new false c l x h g = let y = g refl in omega arith
 
+since-new : (z : Bool) (c : ℕ) → if z (leb (if z c 0) c) (eqb (if z c 0) 0) ≡ true
+since-new true c = le-leb c c (omega arith)
+since-new false c = refl
+
 pub new-own : (kind mark parent session depth : ℕ) (text random : List ℕ) (t : Table) → Kind kind random
     → mark ≤ markMost kind → depthLeast kind ≤ depth → depth ≤ depthMost kind → textLeast kind ≤ length text → length text ≤ textMost kind → allWithin 32 126 text ≡ true
     → (eqb session 0 ≡ false → t .clock < recAt session (t .slots) .expiry) → 1 ≤ t .next → t .next < 4294967296
     → ownRight (t .clock) ((t .next + 1) % 4294967296) (newRec kind mark parent session depth text random t) ≡ true
-unfolding ownRight fieldsRight textRight newRec expiryRight expiryFor
+unfolding ownRight fieldsRight sinceRight sinceFrom textRight newRec expiryRight expiryFor
 new-own kind mark parent session depth text random t k hm hd hd′ ht ht′ hw hx h g =
     rw (
       le-leb kind 6 (k .known),
@@ -222,6 +231,7 @@ new-own kind mark parent session depth text random t k hm hd hd′ ht ht′ hw h
       le-leb (length text) (textMost kind) ht′,
       hw,
       k .iou,
+      since-new (eqb kind aSession) (t .clock),
       k .taken,
       serial-taken (t .next) h g,
       lt-ltb (t .clock) _ (expiry-new (eqb session 0) (t .clock) (lifetime kind) (recAt session (t .slots) .expiry) (k .lasts) hx),

@@ -4,24 +4,24 @@ use mathlib.Core.Bool.{Bool, true, false, _&&_, _||_, not}
 use mathlib.Core.List.{List, [], _∷_}
 use Prim.Native.Nat.{ℕ, zero, suc, _+_, _%_, _≤_, _<_}
 use native.Mathlib.Omega.{arith}
-use borrow.Author.Tests.{eq-eqb, ne-eqb, eqb-true, eqb-false, leb-true, le-leb, ltb-true, lt-ltb, not-false, not-true}
-use lib.Dec.{eqb, leb, ltb}
-use lib.ListN.{length, getD, set}
-use Rattle.protocol.specs.Bytes.{if, ascii, isEmpty, same, among, allWithin}
-use Rattle.protocol.specs.Tickets.{aFree, aLogin, aSession, aService, aProxy, aWaiting, aGrant, lifetime, secretLength, iouText, markMost, depthLeast, depthMost, textLeast, textMost, deepest}
-use Rattle.protocol.specs.Records.{Rec, freeRec, live, nameOf, ownRight, fieldsRight, textRight, serialRight, expiryRight}
-use Rattle.protocol.specs.Table.{Table, tableOf, recAt, putAt, sessionRight, parentRight, grantRight, allRight, serialTaken, serialsDiffer, countKind, loginCap, slotWhere}
-use Rattle.protocol.specs.Register.{Entry, registered, callbackOf}
+use borrow.Author.Tests.{eq-eqb, ne-eqb, eqb-true, eqb-false, leb-true, le-leb, ltb-true, lt-ltb, not-true}
+use lib.Dec.{eqb, leb}
+use lib.ListN.{length, getD, set, drop}
+use Rattle.protocol.specs.Bytes.{if, ascii, isEmpty, same, among, allWithin, within}
+use Rattle.protocol.specs.Tickets.{aFree, aLogin, aService, aProxy, aWaiting, aGrant, lifetime, iouText, markMost, depthLeast, depthMost, textLeast, textMost, deepest}
+use Rattle.protocol.specs.Records.{Rec, freeRec, live, nameOf, ownRight, fieldsRight, textRight, serialRight, expiryRight, sinceRight}
+use Rattle.protocol.specs.Table.{Table, recAt, putAt, sessionRight, parentRight, grantRight, serialTaken, serialsDiffer, countKind}
+use Rattle.protocol.specs.Register.{registered, callbackOf}
 use Rattle.protocol.specs.Request.{proxyNames, validatorNames, malformed, badName, valueRight, valueMost, charsRight, valueOf, fromQuery, present}
-use Rattle.protocol.specs.Answers.{Reply, YesNo, Success, Failure, ProxyFailure, InvalidRequest, InvalidTicket, InvalidService, BadPgt, InternalError, UnauthorizedService}
-use Rattle.protocol.specs.Steps.{Brought, Step, step, put, remove, isNamed, slotNamed, ticketSlot, slotFor, roomFor, newRec, add, failed, isPlain, takesProxies, proxyParent, waitingWith, waitingStep, grants, acceptTicket, judgeTicket, presented, validate, granted, waitingSlot, finished, finishAt, finish, proxyWith, proxyBy, proxy, chainOf}
+use Rattle.protocol.specs.Answers.{YesNo, Failure, ProxyFailure, InvalidRequest, InvalidTicket, InvalidService, BadPgt, InternalError, UnauthorizedService}
+use Rattle.protocol.specs.Steps.{Brought, Step, step, put, remove, isNamed, slotNamed, ticketSlot, slotFor, roomFor, newRec, add, failed, isPlain, takesProxies, proxyParent, waitingWith, waitingStep, grants, acceptTicket, judgeTicket, presented, validate, granted, waitingSlot, finished, finishAt, finish, proxyWith, proxyBy, proxy, successOf}
 use Rattle.protocol.specs.declared.Validator.{Validator}
 use Rattle.protocol.specs.declared.Validator.the-variants as validator
-use Rattle.protocol.specs.Held.{Sized, Fits}
-use Rattle.protocol.proofs.Laws.{both, Own, own, recRight, Rules}
-use Rattle.protocol.proofs.Kept.{SessionView, unnamed, named, ParentView, orphan, of-session, of-grant, session-view, parent-view, recs3, right-slot, right-all, other-right, put-other, put-same, same-links, Unnamed, leaf-unnamed}
-use Rattle.protocol.proofs.Added.{Room, room-one, Chosen, slot-chosen, count-set}
-use Rattle.protocol.proofs.Sound.{Sound, Kind, proxy-kind, waiting-kind, new-fits, new-own, add-sound, fit-slot, fit-put, length-put}
+use Rattle.protocol.specs.Held.{Fits}
+use Rattle.protocol.proofs.Laws.{both, Own, own, recRight, mark-most}
+use Rattle.protocol.proofs.Kept.{SessionView, unnamed, named, ParentView, orphan, of-session, of-grant, session-view, parent-view, recs3, right-slot, right-all, other-right, put-other, put-same, Unnamed, leaf-unnamed}
+use Rattle.protocol.proofs.Added.{Room, room-one, slot-chosen, count-set}
+use Rattle.protocol.proofs.Sound.{Sound, proxy-kind, waiting-kind, new-fits, new-own, add-sound, fit-slot, fit-put, length-put}
 use Rattle.protocol.proofs.StepSound.{case-sound, slot-within, new-session, linked, Live, slot-live, or-both, filled, good-value, spend-sound, nonzero}
 
 -- A live service or proxy ticket
@@ -128,9 +128,9 @@ module _ (random : List ℕ) (h : length random ≡ 48) (t : Table) (s : Sound t
   small : (j : ℕ) → (recAt j (t .slots) .kind ≡ 0 → ⊥) → j < 65536
   small j a = omega (arith, slot-within (t .slots) j a, s .few)
 
-  module _ (parent session : ℕ) (url : List ℕ) (b : Base t parent session) where
+  module _ (mark parent session : ℕ) (url : List ℕ) (b : Base t parent session) where
     abbrev waiting : Rec
-    waiting = newRec 5 0 parent session (recAt parent (t .slots) .depth + 1) url random t
+    waiting = newRec 5 mark parent session (recAt parent (t .slots) .depth + 1) url random t
 
     parent-ok : ParentBase t parent session → (parentRight (t .slots) waiting ≡ true) × (parent ≡ slotFor t → ⊥) × (parent < 65536)
     unfolding newRec parentRight grantRight depthLeast
@@ -147,16 +147,16 @@ module _ (random : List ℕ) (h : length random ≡ 48) (t : Table) (s : Sound t
     unfolding newRec
     facts = (refl, refl, refl, refl)
 
-    pub waiting-sound : recAt parent (t .slots) .depth + 1 ≤ deepest → 1 ≤ length url → length url ≤ 200 → allWithin 32 126 url ≡ true → Sound (add waiting t)
+    pub waiting-sound : mark ≤ 1 → recAt parent (t .slots) .depth + 1 ≤ deepest → 1 ≤ length url → length url ≤ 200 → allWithin 32 126 url ≡ true → Sound (add waiting t)
     unfolding markMost depthLeast depthMost textLeast textMost
-    waiting-sound hd lo hi w =
-        let own = new-own 5 0 parent session (recAt parent (t .slots) .depth + 1) url random t (waiting-kind random h) (omega arith) (omega arith) hd lo hi w (λ e. b .lasts) (m .serial) (s .next) in
-        let sess = new-session 5 0 parent session (recAt parent (t .slots) .depth + 1) url random t (omega arith) (omega arith) (b .some) (b .is) in
+    waiting-sound hm hd lo hi w =
+        let own = new-own 5 mark parent session (recAt parent (t .slots) .depth + 1) url random t (waiting-kind random h) hm (omega arith) hd lo hi w (λ e. b .lasts) (m .serial) (s .next) in
+        let sess = new-session 5 mark parent session (recAt parent (t .slots) .depth + 1) url random t (omega arith) (omega arith) (b .some) (b .is) in
         let p = parent-ok (b .above) in
         let f = facts in
         add-sound waiting t m (f .0) (linked waiting t ((t .next + 1) % 4294967296) (rw (f .2) (not-new session (λ x. omega (arith, b .is)))) (rw (f .3) (p .1)) (rw (own, sess, p .0)))
         (rw (f .1) (omega (arith, s .rules .logins)))
-        (new-fits 5 0 parent session (recAt parent (t .slots) .depth + 1) url random t (p .2) (small session (λ x. omega (arith, b .is))) hi h s) s
+        (new-fits 5 mark parent session (recAt parent (t .slots) .depth + 1) url random t (p .2) (small session (λ x. omega (arith, b .is))) hi h s) s
 
 -- The validators
 
@@ -192,9 +192,9 @@ url-good validator.Service q n e = url-last q e
 url-good validator.Proxy q n e = url-last q e
 
 module _ (p : Validator) (q : List ℕ) (g : Brought) (h : length (g .random) ≡ 48) (good : isPlain p ≡ false → GoodUrl (fromQuery "pgtUrl" q)) where
-  accept-sound : (t : Table) → Sound t → (r : Rec) → Base t (proxyParent r) (r .session) → Sound (acceptTicket p r (fromQuery "pgtUrl" q) g t .table)
+  accept-sound : (t : Table) → Sound t → (r : Rec) → r .mark ≤ 1 → Base t (proxyParent r) (r .session) → Sound (acceptTicket p r (fromQuery "pgtUrl" q) g t .table)
   unfolding acceptTicket waitingStep waitingWith grants
-  accept-sound t s r b =
+  accept-sound t s r y b =
       case-sound (isPlain p) (step t (YesNo true)) (if (grants r url g t) (waitingStep r url (g .random) t) other)
       (λ e. s)
       (λ n. case-sound (grants r url g t) (waitingStep r url (g .random) t) other (λ e. made (good n) e) (λ e. s))
@@ -203,21 +203,21 @@ module _ (p : Validator) (q : List ℕ) (g : Brought) (h : length (g .random) �
       url = fromQuery "pgtUrl" q
 
       other : Step
-      other = step t (Success (recAt (r .session) (t .slots) .text) [] (chainOf (proxyParent r) (t .slots)))
+      other = step t (successOf (r .session) (r .mark) [] (proxyParent r) (t .slots))
 
       made : GoodUrl url → grants r url g t ≡ true → Sound (waitingStep r url (g .random) t .table)
       made v e =
           let a = both (not (isEmpty url) && same url (callbackOf (r .text) (g .register)) && leb (recAt (proxyParent r) (t .slots) .depth + 1) deepest) (roomFor 1 t) e in
           let b₁ = both (not (isEmpty url) && same url (callbackOf (r .text) (g .register))) (leb (recAt (proxyParent r) (t .slots) .depth + 1) deepest) (a .0) in
           let c = both (not (isEmpty url)) (same url (callbackOf (r .text) (g .register))) (b₁ .0) in
-          waiting-sound (g .random) h t s (room-one t (a .1)) (proxyParent r) (r .session) url b (leb-true (recAt (proxyParent r) (t .slots) .depth + 1) deepest (b₁ .1)) (filled url (not-true (isEmpty url) (c .0))) (v .0) (v .1)
+          waiting-sound (g .random) h t s (room-one t (a .1)) (r .mark) (proxyParent r) (r .session) url b y (leb-true (recAt (proxyParent r) (t .slots) .depth + 1) deepest (b₁ .1)) (filled url (not-true (isEmpty url) (c .0))) (v .0) (v .1)
 
-  judge-sound : (t : Table) → Sound t → (r : Rec) → Base t (proxyParent r) (r .session) → Sound (judgeTicket p r q g t .table)
+  judge-sound : (t : Table) → Sound t → (r : Rec) → r .mark ≤ 1 → Base t (proxyParent r) (r .session) → Sound (judgeTicket p r q g t .table)
   unfolding judgeTicket
-  judge-sound t s r b =
+  judge-sound t s r y b =
       case-sound (eqb (r .kind) aProxy && not (takesProxies p)) (step t (failed p InvalidTicket)) rest₁ (λ e. s)
       (λ e. case-sound (present "renew" q && eqb (r .mark) 0) (step t (failed p InvalidTicket)) rest₂ (λ e. s)
-      (λ e. case-sound (same (r .text) (fromQuery "service" q)) (acceptTicket p r (fromQuery "pgtUrl" q) g t) (step t (failed p InvalidService)) (λ e. accept-sound t s r b) (λ e. s)))
+      (λ e. case-sound (same (r .text) (fromQuery "service" q)) (acceptTicket p r (fromQuery "pgtUrl" q) g t) (step t (failed p InvalidService)) (λ e. accept-sound t s r y b) (λ e. s)))
     where
       rest₂ : Step
       rest₂ = if (same (r .text) (fromQuery "service" q)) (acceptTicket p r (fromQuery "pgtUrl" q) g t) (step t (failed p InvalidService))
@@ -230,7 +230,7 @@ module _ (p : Validator) (q : List ℕ) (g : Brought) (h : length (g .random) �
   presented-sound t s k z =
       case-sound (eqb k 0) (step t (failed p InvalidTicket)) (judgeTicket p (recAt k (t .slots)) q g (remove k t))
       (λ e. s)
-      (λ e. let x = z (nonzero k (eqb-false k 0 e)) in judge-sound (remove k t) (spent-sound t s k x) (recAt k (t .slots)) (ticket-base t s k x))
+      (λ e. let x = z (nonzero k (eqb-false k 0 e)) in judge-sound (remove k t) (spent-sound t s k x) (recAt k (t .slots)) (omega (arith, owned t s k .mark, mark-most (recAt k (t .slots) .kind))) (ticket-base t s k x))
 
 pub validate-sound : (p : Validator) (q : List ℕ) (g : Brought) (t : Table) → length (g .random) ≡ 48
     → Sound t → Sound (validate p q g t .table)
@@ -321,7 +321,11 @@ no-login k e = rw e
 
 granted-fields : (r : Rec) (slots : List Rec) → r .kind ≡ 5 → fieldsRight r ≡ true → fieldsRight (granted r slots) ≡ true
 unfolding fieldsRight textRight granted markMost depthLeast depthMost textLeast textMost allWithin
-granted-fields r slots e h = rw e at h
+granted-fields r slots e h = no-mark (leb (r .mark) 1) (within 1 deepest (r .depth)) (allWithin 0 0 (drop 16 (r .secret))) (within 1 200 (length (r .text)) && allWithin 32 126 (r .text)) (rw e at h)
+  where
+    no-mark : (a b c d : Bool) → a && b && c && d && true ≡ true → b && c && d && true ≡ true
+    no-mark true b c d h = h
+    no-mark false b c d h = absurd (let z : _≡_ {A = ℕ} 0 1 = cc in omega arith)
 
 -- the grant's rules, from the waiting grant's and its session's
 module _ (t : Table) (s : Sound t) (k : ℕ) (p : 1 ≤ k) (is : recAt k (t .slots) .kind ≡ 5) (l : t .clock < recAt k (t .slots) .expiry) where
@@ -358,16 +362,22 @@ module _ (t : Table) (s : Sound t) (k : ℕ) (p : 1 ≤ k) (is : recAt k (t .slo
   own-of : (j : ℕ) → ownRight (t .clock) (t .next) (recAt j (t .slots)) ≡ true
   own-of j = recs3 (t .clock) (t .next) (t .slots) (recAt j (t .slots)) (rules-of j) .0
 
+  granted-since : eqb (old .since) 0 ≡ true → sinceRight (t .clock) new ≡ true
+  unfolding sinceRight granted
+  granted-since e = e
+
   granted-own : ownRight (t .clock) (t .next) new ≡ true
-  unfolding ownRight expiryRight
+  unfolding ownRight sinceRight expiryRight
   granted-own =
-      let f = granted-fields old (t .slots) is (both (fieldsRight old) (if (eqb (old .kind) aFree) (eqb (old .serial) 0 && eqb (old .expiry) 0) (serialRight (t .next) (old .serial) && expiryRight (t .clock) old)) (own-of k) .0) in
+      let o = both (fieldsRight old) (sinceRight (t .clock) old) (both (fieldsRight old && sinceRight (t .clock) old) (if (eqb (old .kind) aFree) (eqb (old .serial) 0 && eqb (old .expiry) 0) (serialRight (t .next) (old .serial) && expiryRight (t .clock) old)) (own-of k) .0) in
+      let f = granted-fields old (t .slots) is (o .0) in
+      let y : eqb (old .since) 0 ≡ true = rw is at (o .1) in
       let v = waiting-view (view t s k) in
       let a = life k (eqb (old .kind) aFree) refl (λ e. omega arith) (own-of k) in
       let b = life (old .session) (eqb (recAt (old .session) (t .slots) .kind) aFree) refl (λ e. omega (arith, v .0)) (own-of (old .session)) in
       let m : recAt (old .session) (t .slots) .expiry ≤ t .clock + 28800 = rw (v .0) at (b .1) in
       let n = new-facts in
-      rw (f, n .0, n .3, n .4, a .0, lt-ltb (t .clock) (recAt (old .session) (t .slots) .expiry) (v .1), le-leb (recAt (old .session) (t .slots) .expiry) (t .clock + 28800) m)
+      rw (f, granted-since y, n .0, n .3, n .4, a .0, lt-ltb (t .clock) (recAt (old .session) (t .slots) .expiry) (v .1), le-leb (recAt (old .session) (t .slots) .expiry) (t .clock + 28800) m)
 
   granted-links : (sessionRight (t .slots) new ≡ true) × (parentRight (t .slots) new ≡ true)
   unfolding sessionRight parentRight granted grantRight
@@ -404,7 +414,7 @@ module _ (t : Table) (s : Sound t) (k : ℕ) (p : 1 ≤ k) (is : recAt k (t .slo
   granted-fits =
       let f = fit-slot (t .slots) k (s .fit) in
       let g = fit-slot (t .slots) (old .session) (s .fit) in
-      record { parent = f .parent; session = f .session; serial = f .serial; expiry = g .expiry; sized = record { secret = f .sized .secret; text = f .sized .text; iou = refl } }
+      record { parent = f .parent; session = f .session; serial = f .serial; expiry = g .expiry; since = f .since; sized = record { secret = f .sized .secret; text = f .sized .text; iou = refl } }
 
   pub granted-sound : Sound (put k new t)
   granted-sound =

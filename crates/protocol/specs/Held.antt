@@ -25,6 +25,7 @@ pub record Fits (r : Rec) : Type 0 where
   pub session : r .session < 65536
   pub serial : r .serial < 4294967296
   pub expiry : r .expiry < 18446744073709551616
+  pub since : r .since < 18446744073709551616
   pub sized : Sized r
 
 unfoldable pub AllFit : List Rec → Type 0

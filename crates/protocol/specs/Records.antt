@@ -1,14 +1,14 @@
 -- A record of the table: what its block says, and the rules that it keeps by itself.
 -- 0 kind, 1 mark, 2-3 parent, 4-5 session, 6 depth, 8-11 serial, 16-23 expiry, 24-39 secret,
--- 40-41 text length, 44-243 text, 256-271 IOU secret; every other byte is zero, the check last.
-use mathlib.Core.Bool.{Bool, true, false, _&&_}
+-- 40-41 text length, 44-243 text, 256-271 IOU secret, 272-279 sign-on time; every other byte is zero, the check last.
+use mathlib.Core.Bool.{Bool, true, _&&_}
 use mathlib.Core.List.{List, [], _∷_, _++_}
 use Prim.Native.Nat.{ℕ, _+_}
 use lib.Dec.{eqb, leb, ltb}
-use lib.ListN.{length, take, drop, getD}
-use Rattle.protocol.specs.Bytes.{if, same, within, allWithin, zeros, padTo, part, num, bytesOf}
+use lib.ListN.{length, drop, getD}
+use Rattle.protocol.specs.Bytes.{if, within, allWithin, zeros, padTo, part, num, bytesOf}
 use Rattle.protocol.specs.Blocks.{sealed}
-use Rattle.protocol.specs.Tickets.{aFree, aWaiting, lifetime, secretLength, markMost, depthLeast, depthMost, textLeast, textMost, ticketText}
+use Rattle.protocol.specs.Tickets.{aFree, aSession, aWaiting, lifetime, secretLength, markMost, depthLeast, depthMost, textLeast, textMost, ticketText}
 
 pub record Rec : Type 0 where
   pub kind : ℕ
@@ -21,10 +21,11 @@ pub record Rec : Type 0 where
   pub secret : List ℕ
   pub text : List ℕ
   pub iou : List ℕ
+  pub since : ℕ
 
 -- a free record is zero
 abbrev pub freeRec : Rec
-freeRec = record { kind = 0; mark = 0; parent = 0; session = 0; depth = 0; serial = 0; expiry = 0; secret = zeros 16; text = []; iou = zeros 16 }
+freeRec = record { kind = 0; mark = 0; parent = 0; session = 0; depth = 0; serial = 0; expiry = 0; secret = zeros 16; text = []; iou = zeros 16; since = 0 }
 
 -- the 508 bytes of a record
 unfoldable pub recBody : Rec → List ℕ
@@ -41,7 +42,8 @@ recBody r =
     ++ (zeros 2
     ++ (padTo 212 (r .text)
     ++ (padTo 16 (r .iou)
-    ++ zeros 236)))))))))))
+    ++ (bytesOf 8 (r .since)
+    ++ zeros 228))))))))))))
 
 -- its block
 unfoldable pub encodeRec : Rec → List ℕ
@@ -61,6 +63,7 @@ decodeRec b =
       secret = part 24 16 b;
       text = part 44 (num 40 2 b) b;
       iou = part 256 16 b;
+      since = num 272 8 b;
     }
 
 -- a record's ticket text
@@ -93,10 +96,14 @@ serialRight next serial = leb 1 serial && (if (eqb next 0) true (ltb serial next
 unfoldable pub expiryRight : ℕ → Rec → Bool
 expiryRight clock r = live clock r && leb (r .expiry) (clock + lifetime (r .kind))
 
+-- a session was made at T at the latest; other kinds have no sign-on time
+unfoldable pub sinceRight : ℕ → Rec → Bool
+sinceRight clock r = if (eqb (r .kind) aSession) (leb (r .since) clock) (eqb (r .since) 0)
+
 -- the rules of one record by itself, under the header's clock and next serial
 unfoldable pub ownRight : ℕ → ℕ → Rec → Bool
 ownRight clock next r =
-    fieldsRight r
+    (fieldsRight r && sinceRight clock r)
     && (if (eqb (r .kind) aFree)
     (eqb (r .serial) 0 && eqb (r .expiry) 0)
     (serialRight next (r .serial) && expiryRight clock r))

@@ -1,20 +1,21 @@
 -- A closed run, computed: a small table is formatted, the form shown, ann signs in for a service, the ticket is validated once and again, she
 -- signs out. What is answered at each call stands below as text.
 use mathlib.Core.Path.{_≡_, refl}
-use mathlib.Core.Bool.{Bool, true, false}
-use mathlib.Core.List.{List, [], _∷_, _++_}
+use mathlib.Core.Bool.{true}
+use mathlib.Core.List.{List, [], _∷_}
 use Prim.Native.Nat.{ℕ}
 use lib.ListN.{length, take, replicate}
 use Rattle.protocol.specs.Bytes.{ascii, same, among, allDiffer, allWithin, holds, leOf, bytesOf, spliced, upTo, past, cuts, digits, hex, joined, blocks}
 use Rattle.protocol.specs.Blocks.{checkFrom, houseCheck, sealed}
-use Rattle.protocol.specs.Tickets.{deepest, markMost, depthLeast, depthMost, textLeast, textMost, secretFrom, iouFrom, ticketText, iouText}
-use Rattle.protocol.specs.Records.{freeRec, recBody, encodeRec, decodeRec, nameOf, textRight, fieldsRight, serialRight, expiryRight, ownRight}
+use Rattle.protocol.specs.Tickets.{deepest, markMost, depthLeast, depthMost, textLeast, textMost, secretFrom, iouFrom, sinceFrom, ticketText, iouText}
+use Rattle.protocol.specs.Records.{recBody, encodeRec, decodeRec, nameOf, textRight, fieldsRight, sinceRight, serialRight, expiryRight, ownRight}
 use Rattle.protocol.specs.Table.{headBody, encodeTable, decodeTable, slotFrom, countKind, serialTaken, serialsDiffer, sessionRight, grantRight, parentRight, allRight, loginCap, rulesHold, tableLawful, formatted}
 use Rattle.protocol.specs.Register.{Entry, entryBody, encodeEntry, decodeEntry, decodeRegister, addressRight, entryRight, allEntriesRight, servicesOf, registerLawful, registered, callbackOf}
 use Rattle.protocol.specs.Request.{pathNamed, notEmpty, pieces, countNamed, firstNamed, occurrences, rawValue, hexValue, unitOf, skipOf, decodedFrom, valueMost, charsRight, valueRight, loginNames, bodyNames, logoutNames, validatorNames, proxyNames, badName, malformed, valueOf, present}
-use Rattle.protocol.specs.Answers.{escapedByte, escaped, extended, pageHead, formText, inResponse, proxyLines, successText, failureText, proxySuccessText, callbackText, replyText, replyAnswer}
+use Rattle.protocol.specs.Calendar.{isLeap, yearLength, monthLength, yearFrom, yearOf, monthFrom, monthOf, dateOf, padded, dayText, clockText, dateText}
+use Rattle.protocol.specs.Answers.{escapedByte, escaped, extended, pageHead, formText, inResponse, proxyLines, attributesText, successText, failureText, proxySuccessText, callbackText, replyText, replyAnswer}
 use Rattle.protocol.specs.Steps.{tick, endSession, isNamed, slotNamed, ticketSlot, slotFor, roomFor, expiryFor, newRec, add, chainFrom, chainOf, formWith, formStep, ticketWith, ticketStep, signedOn, loginPage, unknownService, loginGet, admitted, newSession, needs, issueAll, accepted, credentials, loginTicket, loginPost, waitingWith, waitingStep, grants, acceptTicket, judgeTicket, presented, validate, proxyWith, proxyBy, proxy, linkTo, logout}
-use Rattle.protocol.specs.Calls.{Inputs, inputs, Result, outcomeWith, answerRefusal, stepOf, delivered, answerOf, formatRefusal, formatOf}
+use Rattle.protocol.specs.Calls.{inputs, Result, outcomeWith, answerRefusal, stepOf, delivered, answerOf, formatRefusal, formatOf}
 use Rattle.protocol.specs.declared.Method.{Method}
 use Rattle.protocol.specs.declared.Method.the-variants as method
 
@@ -24,7 +25,7 @@ panel = record { service = ascii "https://a.lan/p"; callback = ascii "https://a.
 
 -- a call of answer on the table t: method, target, body, cookie and time; the random input is 48 sevens, the verdict yes
 unfoldable pub ask : List ℕ → Method → List ℕ → List ℕ → List ℕ → ℕ → Result
-unfolding same among allDiffer allWithin holds leOf bytesOf spliced upTo past cuts digits hex joined blocks checkFrom houseCheck sealed deepest markMost depthLeast depthMost textLeast textMost secretFrom iouFrom ticketText iouText recBody encodeRec decodeRec nameOf textRight fieldsRight serialRight expiryRight ownRight headBody encodeTable decodeTable slotFrom countKind serialTaken serialsDiffer sessionRight grantRight parentRight allRight loginCap rulesHold tableLawful formatted entryBody encodeEntry decodeEntry decodeRegister addressRight entryRight allEntriesRight servicesOf registerLawful registered callbackOf pathNamed notEmpty pieces countNamed firstNamed occurrences rawValue hexValue unitOf skipOf decodedFrom valueMost charsRight valueRight loginNames bodyNames logoutNames validatorNames proxyNames badName malformed valueOf present escapedByte escaped extended pageHead formText inResponse proxyLines successText failureText proxySuccessText callbackText replyText replyAnswer tick endSession isNamed slotNamed ticketSlot slotFor roomFor expiryFor newRec add chainFrom chainOf formWith formStep ticketWith ticketStep signedOn loginPage unknownService loginGet admitted newSession needs issueAll accepted credentials loginTicket loginPost waitingWith waitingStep grants acceptTicket judgeTicket presented validate proxyWith proxyBy proxy linkTo logout outcomeWith answerRefusal stepOf delivered answerOf formatRefusal formatOf
+unfolding same among allDiffer allWithin holds leOf bytesOf spliced upTo past cuts digits hex joined blocks checkFrom houseCheck sealed deepest markMost depthLeast depthMost textLeast textMost secretFrom iouFrom sinceFrom ticketText iouText recBody encodeRec decodeRec nameOf textRight fieldsRight sinceRight serialRight expiryRight ownRight headBody encodeTable decodeTable slotFrom countKind serialTaken serialsDiffer sessionRight grantRight parentRight allRight loginCap rulesHold tableLawful formatted entryBody encodeEntry decodeEntry decodeRegister addressRight entryRight allEntriesRight servicesOf registerLawful registered callbackOf pathNamed notEmpty pieces countNamed firstNamed occurrences rawValue hexValue unitOf skipOf decodedFrom valueMost charsRight valueRight loginNames bodyNames logoutNames validatorNames proxyNames badName malformed valueOf present escapedByte escaped extended pageHead formText inResponse proxyLines isLeap yearLength monthLength yearFrom yearOf monthFrom monthOf dateOf padded dayText clockText dateText attributesText successText failureText proxySuccessText callbackText replyText replyAnswer tick endSession isNamed slotNamed ticketSlot slotFor roomFor expiryFor newRec add chainFrom chainOf formWith formStep ticketWith ticketStep signedOn loginPage unknownService loginGet admitted newSession needs issueAll accepted credentials loginTicket loginPost waitingWith waitingStep grants acceptTicket judgeTicket presented validate proxyWith proxyBy proxy linkTo logout outcomeWith answerRefusal stepOf delivered answerOf formatRefusal formatOf
 ask t m u b k n = answerOf (inputs t (encodeEntry panel) m u b k n (replicate 48 7) true (replicate 8192 238) (replicate 64 221))
 
 unfoldable pub said : Result → List ℕ
@@ -50,7 +51,7 @@ pub told : story
     ≡ ascii "<!DOCTYPE html>\n<title>200</title>\n<p>200</p>\n<form method=\"post\" action=\"/cas/login\">\n<input name=\"username\">\n<input name=\"password\" type=\"password\">\n<input name=\"lt\" type=\"hidden\" value=\"LT-1-070707070707070707\">\n<input name=\"service\" type=\"hidden\" value=\"https://a.lan/p\">\n<button>Sign in</button>\n</form>\n"
     ∷ ascii "https://a.lan/p?ticket=ST-3-070707070707070707"
     ∷ ascii "TGC-2-07070707070707070707070707070707"
-    ∷ ascii "<cas:serviceResponse xmlns:cas=\"http://www.yale.edu/tp/cas\">\n  <cas:authenticationSuccess>\n    <cas:user>ann</cas:user>\n  </cas:authenticationSuccess>\n</cas:serviceResponse>\n"
+    ∷ ascii "<cas:serviceResponse xmlns:cas=\"http://www.yale.edu/tp/cas\">\n  <cas:authenticationSuccess>\n    <cas:user>ann</cas:user>\n    <cas:attributes>\n      <cas:authenticationDate>1970-01-01T00:16:41Z</cas:authenticationDate>\n      <cas:longTermAuthenticationRequestTokenUsed>false</cas:longTermAuthenticationRequestTokenUsed>\n      <cas:isFromNewLogin>true</cas:isFromNewLogin>\n    </cas:attributes>\n  </cas:authenticationSuccess>\n</cas:serviceResponse>\n"
     ∷ ascii "<cas:serviceResponse xmlns:cas=\"http://www.yale.edu/tp/cas\">\n  <cas:authenticationFailure code=\"INVALID_TICKET\">\n    INVALID_TICKET\n  </cas:authenticationFailure>\n</cas:serviceResponse>\n"
     ∷ ascii "<!DOCTYPE html>\n<title>200</title>\n<p>Signed out</p>\n<a href=\"https://a.lan/p\">Back</a>\n"
     ∷ []

@@ -4,7 +4,7 @@ use mathlib.Core.List.{List, [], _∷_, map}
 use Prim.Native.Nat.{ℕ, zero, suc, _+_, _%_, _^_, min, max}
 use lib.Dec.{eqb, leb, ltb}
 use Rattle.protocol.specs.Bytes.{if, isEmpty, same, zeros, padTo}
-use Rattle.protocol.specs.Tickets.{aFree, aLogin, aSession, aService, aProxy, aWaiting, aGrant, deepest, lifetime, secretFrom, iouFrom, iouText}
+use Rattle.protocol.specs.Tickets.{aFree, aLogin, aSession, aService, aProxy, aWaiting, aGrant, deepest, lifetime, secretFrom, iouFrom, sinceFrom, iouText}
 use Rattle.protocol.specs.Records.{Rec, freeRec, nameOf, live}
 use Rattle.protocol.specs.Table.{Table, tableOf, recAt, putAt, slotWhere, countKind, loginCap}
 use Rattle.protocol.specs.Register.{Entry, registered, callbackOf}
@@ -101,6 +101,7 @@ newRec kind mark parent session depth text random t =
       secret = padTo 16 (secretFrom kind random);
       text = text;
       iou = iouFrom kind random;
+      since = sinceFrom kind (t .clock);
     }
 
 -- it is added, and the serials rise by one, to 0 when all are used
@@ -114,6 +115,10 @@ chainFrom (suc d) k slots = recAt k slots .text ∷ chainFrom d (recAt k slots .
 
 unfoldable pub chainOf : ℕ → List Rec → List (List ℕ)
 chainOf k slots = chainFrom (recAt k slots .depth) k slots
+
+-- success for a session's user by a ticket's mark, with an IOU or without, and the callbacks from a grant on
+abbrev pub successOf : ℕ → ℕ → List ℕ → ℕ → List Rec → Reply
+successOf session mark iou parent slots = Success (recAt session slots .text) (recAt session slots .since) mark iou (chainOf parent slots)
 
 -- login
 
@@ -238,13 +243,13 @@ failed v code = if (isPlain v) (YesNo false) (Failure code)
 abbrev pub proxyParent : Rec → ℕ
 proxyParent r = if (eqb (r .kind) aProxy) (r .parent) 0
 
--- a waiting grant below a parent, and its callback
+-- a waiting grant below a parent, with its ticket's mark, and its callback
 unfoldable pub waitingWith : Rec → Table → Step
 waitingWith w t = step (add w t) (CallbackTo (w .text) (nameOf w) (iouText (w .iou)) (w .serial))
 
 unfoldable pub waitingStep : Rec → List ℕ → List ℕ → Table → Step
 waitingStep r pgtUrl random t =
-    waitingWith (newRec aWaiting 0 (proxyParent r) (r .session) (recAt (proxyParent r) (t .slots) .depth + 1) pgtUrl random t) t
+    waitingWith (newRec aWaiting (r .mark) (proxyParent r) (r .session) (recAt (proxyParent r) (t .slots) .depth + 1) pgtUrl random t) t
 
 -- a grant is made where pgtUrl is the nonempty callback of the service, the new depth is at most 4 and a serial is left
 unfoldable pub grants : Rec → List ℕ → Brought → Table → Bool
@@ -261,7 +266,7 @@ acceptTicket v r pgtUrl g t =
     (step t (YesNo true))
     (if (grants r pgtUrl g t)
     (waitingStep r pgtUrl (g .random) t)
-    (step t (Success (recAt (r .session) (t .slots) .text) [] (chainOf (proxyParent r) (t .slots)))))
+    (step t (successOf (r .session) (r .mark) [] (proxyParent r) (t .slots))))
 
 -- (3) to (6): the ticket r has been removed
 unfoldable pub judgeTicket : Validator → Rec → List ℕ → Brought → Table → Step
@@ -289,12 +294,12 @@ validate v q g t =
 
 -- finish
 
--- a waiting grant becomes a grant, with its session's expiry and IOU secret cleared
+-- a waiting grant becomes a grant, with its session's expiry, mark and IOU secret cleared
 unfoldable pub granted : Rec → List Rec → Rec
 granted r slots =
     record {
       kind = aGrant;
-      mark = r .mark;
+      mark = 0;
       parent = r .parent;
       session = r .session;
       depth = r .depth;
@@ -303,6 +308,7 @@ granted r slots =
       secret = r .secret;
       text = r .text;
       iou = zeros 16;
+      since = r .since;
     }
 
 -- the slot of the live waiting grant of a serial, or 0
@@ -311,7 +317,7 @@ waitingSlot serial t = slotWhere (λ (r : Rec). eqb (r .kind) aWaiting && live (
 
 -- success as finish tells it of the grant r, with an IOU or without
 unfoldable pub finished : Rec → List ℕ → Table → Table → Step
-finished r iou old t = step t (Success (recAt (r .session) (old .slots) .text) iou (chainOf (r .parent) (old .slots)))
+finished r iou old t = step t (successOf (r .session) (r .mark) iou (r .parent) (old .slots))
 
 unfoldable pub finishAt : ℕ → Rec → Bool → Table → Step
 finishAt k r outcome t =

@@ -1,10 +1,10 @@
 -- The table: a clock T, the next serial and the record blocks, which are slots counted from 1; slot 0 is none.
--- Block 0: 0-3 `TKTS`, 4-5 count of record blocks, 8-15 clock, 16-19 next serial; every other byte is zero, the check last.
+-- Block 0: 0-3 `TKTS`, 4-5 count of record blocks, 6 the form of the table, which is 1, 8-15 clock, 16-19 next serial; every other byte is zero, the check last.
 use mathlib.Core.Bool.{Bool, true, false, _&&_, _||_, not}
 use mathlib.Core.List.{List, [], _∷_, _++_, map}
-use Prim.Native.Nat.{ℕ, zero, suc, _+_, _-_, _*_, _/_, _%_, _^_}
+use Prim.Native.Nat.{ℕ, zero, _+_, _-_, _/_, _%_, _^_}
 use lib.Dec.{eqb, leb, ltb}
-use lib.ListN.{length, take, drop, getD, set, replicate}
+use lib.ListN.{length, drop, getD, set, replicate}
 use Rattle.protocol.specs.Bytes.{if, ascii, same, within, zeros, num, bytesOf, joined, blocks}
 use Rattle.protocol.specs.Blocks.{sealed}
 use Rattle.protocol.specs.Tickets.{aFree, aLogin, aSession, aService, aProxy, aGrant}
@@ -20,7 +20,7 @@ tableOf clock next slots = record { clock = clock; next = next; slots = slots }
 
 -- the 508 bytes of block 0
 unfoldable pub headBody : ℕ → ℕ → ℕ → List ℕ
-headBody count clock next = ascii "TKTS" ++ (bytesOf 2 count ++ (zeros 2 ++ (bytesOf 8 clock ++ (bytesOf 4 next ++ zeros 488))))
+headBody count clock next = ascii "TKTS" ++ (bytesOf 2 count ++ ((1 ∷ 0 ∷ []) ++ (bytesOf 8 clock ++ (bytesOf 4 next ++ zeros 488))))
 
 -- all the table's bytes
 unfoldable pub encodeTable : Table → List ℕ

@@ -1,8 +1,8 @@
 -- A reply's bytes written from the start, and its result with their number, say the reply. Assumes nothing.
-use mathlib.Core.Path.{_≡_, refl, sym, ap, _∙_}
+use mathlib.Core.Path.{_≡_, refl, _∙_}
 use mathlib.Core.Bool.{Bool, true, false}
 use mathlib.Core.List.{List, [], _∷_}
-use Prim.Native.Nat.{ℕ, _+_, _≤_}
+use Prim.Native.Nat.{ℕ, _≤_}
 use native.Mathlib.Omega.{arith}
 use lib.ListN.{length}
 use Rattle.protocol.specs.Bytes.{isEmpty}
@@ -10,7 +10,6 @@ use Rattle.protocol.specs.Answers.{Code, Reply, ErrorPage, SignedIn, SignedOut,
 use Rattle.protocol.specs.Calls.{outcomeWith}
 use Rattle.protocol.specs.Written.{Wrote}
 use Rattle.protocol.specs.Held.{Said}
-use Rattle.protocol.specs.declared.Answer.{Answer}
 use Rattle.protocol.specs.declared.Answer.the-variants as answer
 use Rattle.protocol.specs.declared.Outcome.{Outcome}
 use Rattle.reply.specs.Told.{toldOf}
@@ -58,9 +57,9 @@ module _ {n : ℕ} {r : Outcome} {o o′ : List ℕ} where
   unfolding replyAnswer
   said-failure {code} w q = said (Failure code) w q
 
-  pub said-success : {user iou : List ℕ} {proxies : List (List ℕ)} → Wrote o 0 o′ n (replyText (Success user iou proxies)) → r ≡ toldOf (answer.Xml true) n → Said (Success user iou proxies) r o o′
+  pub said-success : {user : List ℕ} {since mark : ℕ} {iou : List ℕ} {proxies : List (List ℕ)} → Wrote o 0 o′ n (replyText (Success user since mark iou proxies)) → r ≡ toldOf (answer.Xml true) n → Said (Success user since mark iou proxies) r o o′
   unfolding replyAnswer
-  said-success {user} {iou} {proxies} w q = said (Success user iou proxies) w q
+  said-success {user} {since} {mark} {iou} {proxies} w q = said (Success user since mark iou proxies) w q
 
   pub said-proxy-success : {ticket : List ℕ} → Wrote o 0 o′ n (replyText (ProxySuccess ticket)) → r ≡ toldOf (answer.Xml true) n → Said (ProxySuccess ticket) r o o′
   unfolding replyAnswer

@@ -38,4 +38,4 @@ textRight n b = allWithin 32 126 (part 44 n b) && allWithin 0 0 (part (44 + n) (
 
 -- the bytes that have no name
 unfoldable pub gapsZero : List ℕ → Bool
-gapsZero b = allWithin 0 0 (part 7 1 b) && allWithin 0 0 (part 12 4 b) && allWithin 0 0 (part 42 2 b) && allWithin 0 0 (part 272 236 b)
+gapsZero b = allWithin 0 0 (part 7 1 b) && allWithin 0 0 (part 12 4 b) && allWithin 0 0 (part 42 2 b) && allWithin 0 0 (part 280 228 b)

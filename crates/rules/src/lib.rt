@@ -7,7 +7,7 @@ ghost use lib.ListN.{length, take};
 ghost use lib.Dec.{leb};
 ghost use Rattle.protocol.specs.Bytes.{if, same, num};
 ghost use Rattle.protocol.specs.Tickets.{markMost, depthLeast, depthMost, textLeast, textMost};
-ghost use Rattle.protocol.specs.Records.{decodeRec, recBody, serialRight, ownRight};
+ghost use Rattle.protocol.specs.Records.{decodeRec, recBody, serialRight, sinceRight, ownRight};
 ghost use Rattle.protocol.specs.Table.{headBody, lastTime};
 ghost use Rattle.rules.specs.Tests.{numbersOf, limitsRight, lifeRight, secretsRight, textRight, gapsZero};
 
@@ -35,7 +35,7 @@ fn mark_most(kind: u8) -> u8
     requires { ⌜ kind ≤ 6 ⌝ }
     ensures { λ r. ⌜ r ≡ markMost kind ⌝ }
 {
-    let row = [0u8, 0, 0, 1, 0, 0, 0];
+    let row = [0u8, 0, 0, 1, 0, 1, 0];
     row[kind as usize]
 }
 
@@ -120,6 +120,15 @@ fn life_right(f: Numbers, clock: u64, next: u32) -> bool
     )
 }
 
+// A session was made at T at the latest; other kinds have no sign-on time.
+fn since_right(block: &[u8], clock: u64) -> bool
+    requires { ⌜ length (now block) ≡ 512 ⌝ }
+    ensures { λ r. ⌜ r ≡ sinceRight clock (decodeRec (now (block .entry))) ⌝ }
+{
+    let since = block::get_u64(block, 272);
+    pick(block[0] == 2, since <= clock, since == 0)
+}
+
 // The rest of a short secret is zero, and so is the IOU secret of any kind but 5.
 fn secrets_right(block: &[u8], kind: u8) -> bool
     requires { ⌜ length (now block) ≡ 512 ⌝ }
@@ -147,7 +156,7 @@ fn gaps_zero(block: &[u8]) -> bool
     block::all_within(&block[7..8], 0, 0)
         & block::all_within(&block[12..16], 0, 0)
         & block::all_within(&block[42..44], 0, 0)
-        & block::all_within(&block[272..508], 0, 0)
+        & block::all_within(&block[280..508], 0, 0)
 }
 
 // Does the record that a block says keep its own rules, and are the first 508 bytes those of that record?
@@ -162,6 +171,7 @@ pub fn record_right(block: &[u8], clock: u64, next: u32) -> bool
         return secrets_right(block, f.kind)
             & text_right(block, n as usize)
             & gaps_zero(block)
+            & since_right(block, clock)
             & life_right(f, clock, next);
     }
     false
@@ -169,7 +179,7 @@ pub fn record_right(block: &[u8], clock: u64, next: u32) -> bool
 
 // ---- the header
 
-// Is the clock right, and are the first 508 bytes those of a header of so many records?
+// Is the clock right, and are the first 508 bytes those of a header of so many records? Byte 6 is the form of the table, 1.
 pub fn head_right(block: &[u8], count: usize) -> bool
     requires { ⌜ (length (now block) ≡ 512) × (count < 65536) ⌝ }
     ensures { λ r. ⌜ r ≡ leb (num 8 8 (now (block .entry))) lastTime && same (take 508 (now (block .entry))) (headBody count (num 8 8 (now (block .entry))) (num 16 4 (now (block .entry)))) ⌝ }
@@ -177,6 +187,6 @@ pub fn head_right(block: &[u8], count: usize) -> bool
     (block::get_u64(block, 8) <= 1099511627776)
         & text::same(&block[0..4], b"TKTS")
         & (block::get_u16(block, 4) as usize == count)
-        & block::all_within(&block[6..8], 0, 0)
+        & (block::get_u16(block, 6) == 1)
         & block::all_within(&block[20..508], 0, 0)
 }

@@ -12,8 +12,8 @@ use Rattle.protocol.specs.Tickets.{aProxy, aWaiting, deepest}
 use Rattle.protocol.specs.Records.{Rec}
 use Rattle.protocol.specs.Table.{Table, decodeTable, recAt}
 use Rattle.protocol.specs.Register.{callbackOf, decodeRegister}
-use Rattle.protocol.specs.Answers.{InvalidTicket, InvalidService, YesNo, Success, Failure}
-use Rattle.protocol.specs.Steps.{Brought, remove, ticketSlot, roomFor, newRec, chainOf, failed, takesProxies, proxyParent, waitingWith}
+use Rattle.protocol.specs.Answers.{InvalidTicket, InvalidService, YesNo, Failure}
+use Rattle.protocol.specs.Steps.{Brought, remove, ticketSlot, roomFor, newRec, failed, takesProxies, proxyParent, waitingWith, successOf}
 use Rattle.protocol.specs.Held.{Lawful, In, Holds, Said, Done}
 use Rattle.protocol.specs.declared.Outcome.{Outcome}
 use Rattle.protocol.specs.declared.Validator.{Validator}
@@ -73,7 +73,7 @@ pub grant-tests : (p d : ℕ) (service url callback g b : List ℕ) (s m : Bool)
 unfolding mayGrant
 grant-tests p d service url callback g b s m e f h k = rw (some-byte url, one-deeper d, h, e, f, k)
 
-module _ (b g url random o service : List ℕ) (s p : ℕ) (h : Brings b g url random o) (z : Bool) (e : z ≡ mayGrant p service url (decodeRegister g) (decodeTable b)) where
+module _ (b g url random o service : List ℕ) (s p m : ℕ) (h : Brings b g url random o) (z : Bool) (e : z ≡ mayGrant p service url (decodeRegister g) (decodeTable b)) where
   module _ (y : z ≡ true) where
     tests : (leb (recAt p (decodeTable b .slots) .depth + 1) deepest ≡ true) × (roomFor 1 (decodeTable b) ≡ true)
     unfolding mayGrant
@@ -91,13 +91,13 @@ module _ (b g url random o service : List ℕ) (s p : ℕ) (h : Brings b g url r
       unfolding deepest
       shallow = omega (arith, leb-true (recAt p (decodeTable b .slots) .depth + 1) 4 (tests .0))
 
-      pub grant-done : (o′ b′ : List ℕ) (r : Outcome) → Done (waitingWith (newRec aWaiting 0 p s (d + 1) url random (decodeTable b)) (decodeTable b)) r b′ o o′
-          → Done (grantOrTell s p service url (bringing g random) (decodeTable b)) r b′ o o′
+      pub grant-done : (o′ b′ : List ℕ) (r : Outcome) → Done (waitingWith (newRec aWaiting m p s (d + 1) url random (decodeTable b)) (decodeTable b)) r b′ o o′
+          → Done (grantOrTell s p m service url (bringing g random) (decodeTable b)) r b′ o o′
       unfolding grantOrTell
       grant-done o′ b′ r x = done-as (rw (sym e ∙ y, f)) x
 
-  pub tell-done : z ≡ false → (o′ : List ℕ) (r : Outcome) → Said (Success (recAt s (decodeTable b .slots) .text) [] (chainOf p (decodeTable b .slots))) r o o′
-      → Done (grantOrTell s p service url (bringing g random) (decodeTable b)) r b o o′
+  pub tell-done : z ≡ false → (o′ : List ℕ) (r : Outcome) → Said (successOf s m [] p (decodeTable b .slots)) r o o′
+      → Done (grantOrTell s p m service url (bringing g random) (decodeTable b)) r b o o′
   unfolding grantOrTell
   tell-done y o′ r x = done-as (rw (sym e ∙ y)) (only-said (h .lawful .fine) x)
 
@@ -110,17 +110,17 @@ module _ (b g url random o : List ℕ) (h : Brings b g url random o) where
 
 -- By the validator
 
-module _ (v : Validator) (b g url random o service : List ℕ) (s p : ℕ) (o′ : List ℕ) (r : Outcome) where
-  pub plain-done : v ≡ validator.Plain → Brings b g url random o → Said (YesNo true) r o o′ → Done (acceptedBy v s p service url (bringing g random) (decodeTable b)) r b o o′
+module _ (v : Validator) (b g url random o service : List ℕ) (s p m : ℕ) (o′ : List ℕ) (r : Outcome) where
+  pub plain-done : v ≡ validator.Plain → Brings b g url random o → Said (YesNo true) r o o′ → Done (acceptedBy v s p m service url (bringing g random) (decodeTable b)) r b o o′
   unfolding acceptedBy
   plain-done e h x = done-as (rw e) (only-said (h .lawful .fine) x)
 
-  module _ (b′ : List ℕ) (x : Done (grantOrTell s p service url (bringing g random) (decodeTable b)) r b′ o o′) where
-    pub service-done : v ≡ validator.Service → Done (acceptedBy v s p service url (bringing g random) (decodeTable b)) r b′ o o′
+  module _ (b′ : List ℕ) (x : Done (grantOrTell s p m service url (bringing g random) (decodeTable b)) r b′ o o′) where
+    pub service-done : v ≡ validator.Service → Done (acceptedBy v s p m service url (bringing g random) (decodeTable b)) r b′ o o′
     unfolding acceptedBy
     service-done e = done-as (rw e) x
 
-    pub proxy-done : v ≡ validator.Proxy → Done (acceptedBy v s p service url (bringing g random) (decodeTable b)) r b′ o o′
+    pub proxy-done : v ≡ validator.Proxy → Done (acceptedBy v s p m service url (bringing g random) (decodeTable b)) r b′ o o′
     unfolding acceptedBy
     proxy-done e = done-as (rw e) x
 
@@ -146,12 +146,12 @@ module _ (b : List ℕ) (k : ℕ) (l : Lawful b) (z : Spendable k b) (b′ : Lis
   above-within p s (grant-above e q) = let i = taken-in b′ p (rw (h .is) (omega arith)) in record { high = i .high }
 
   -- what its verdict names
-  module _ (v : Validator) (renew : Bool) (service : List ℕ) (x : Verdict) (e : x ≡ verdictOf v renew service (recAt k (t .slots))) (s p : ℕ) (y : x ≡ verdict.Accepted s p) where
+  module _ (v : Validator) (renew : Bool) (service : List ℕ) (x : Verdict) (e : x ≡ verdictOf v renew service (recAt k (t .slots))) (s p m : ℕ) (y : x ≡ verdict.Accepted s p m) where
     pub names : (s ≡ recAt k (t .slots) .session) × (p ≡ proxyParent (recAt k (t .slots)))
     unfolding verdictOf
     names = go (eqb (recAt k (t .slots) .kind) aProxy && not (takesProxies v)) (renew && eqb (recAt k (t .slots) .mark) 0) (same (recAt k (t .slots) .text) service) (sym y ∙ e)
       where
-        go : (a b c : Bool) → verdict.Accepted s p ≡ if a verdict.NoTicket (if b verdict.NoTicket (if c (verdict.Accepted (recAt k (t .slots) .session) (proxyParent (recAt k (t .slots)))) verdict.NoService))
+        go : (a b c : Bool) → verdict.Accepted s p m ≡ if a verdict.NoTicket (if b verdict.NoTicket (if c (verdict.Accepted (recAt k (t .slots) .session) (proxyParent (recAt k (t .slots))) (recAt k (t .slots) .mark)) verdict.NoService))
             → (s ≡ recAt k (t .slots) .session) × (p ≡ proxyParent (recAt k (t .slots)))
         go true b c q = absurd (let w : _≡_ {A = ℕ} 0 1 = cc in omega arith)
         go false true c q = absurd (let w : _≡_ {A = ℕ} 0 1 = cc in omega arith)
@@ -178,10 +178,10 @@ module _ (v : Validator) (rec : Rec) (renew : Bool) (service url : List ℕ) (g 
   unfolding spentBy
   no-service y s = done-as (rw (sym e ∙ y)) (said-done h s)
 
-  pub accepted-done : (s p : ℕ) → x ≡ verdict.Accepted s p → (b″ : List ℕ) → Done (acceptedBy v s p service url g (decodeTable b′)) r b″ o o′ → Done (spentBy v rec renew service url g u) r b″ o o′
+  pub accepted-done : (s p m : ℕ) → x ≡ verdict.Accepted s p m → (b″ : List ℕ) → Done (acceptedBy v s p m service url g (decodeTable b′)) r b″ o o′ → Done (spentBy v rec renew service url g u) r b″ o o′
   unfolding spentBy
-  accepted-done s p y b″ d =
-      let d₁ : Done (acceptedBy v s p service url g u) r b″ o o′ = rw (h .is) at d in
+  accepted-done s p m y b″ d =
+      let d₁ : Done (acceptedBy v s p m service url g u) r b″ o o′ = rw (h .is) at d in
       done-as (rw (sym e ∙ y)) d₁
 
 -- What is found

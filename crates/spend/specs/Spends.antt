@@ -10,8 +10,8 @@ use Rattle.protocol.specs.Tickets.{aWaiting, deepest}
 use Rattle.protocol.specs.Records.{Rec}
 use Rattle.protocol.specs.Table.{Table, decodeTable, recAt}
 use Rattle.protocol.specs.Register.{Entry, callbackOf, registerLawful}
-use Rattle.protocol.specs.Answers.{InvalidTicket, InvalidService, YesNo, Success}
-use Rattle.protocol.specs.Steps.{Brought, Step, step, remove, roomFor, newRec, chainOf, failed, isPlain, waitingWith}
+use Rattle.protocol.specs.Answers.{InvalidTicket, InvalidService, YesNo}
+use Rattle.protocol.specs.Steps.{Brought, Step, step, remove, roomFor, newRec, successOf, failed, isPlain, waitingWith}
 use Rattle.protocol.specs.Held.{Lawful, In}
 use Rattle.protocol.specs.declared.Validator.{Validator}
 use Rattle.verdict.specs.Verdicts.{verdictOf}
@@ -38,21 +38,21 @@ unfoldable pub mayGrant : ℕ → List ℕ → List ℕ → List Entry → Table
 mayGrant parent service url register t =
     not (isEmpty url) && same url (callbackOf service register) && leb (recAt parent (t .slots) .depth + 1) deepest && roomFor 1 t
 
-unfoldable pub grantOrTell : ℕ → ℕ → List ℕ → List ℕ → Brought → Table → Step
-grantOrTell session parent service url g t =
+unfoldable pub grantOrTell : ℕ → ℕ → ℕ → List ℕ → List ℕ → Brought → Table → Step
+grantOrTell session parent mark service url g t =
     if (mayGrant parent service url (g .register) t)
-    (waitingWith (newRec aWaiting 0 parent session (recAt parent (t .slots) .depth + 1) url (g .random) t) t)
-    (step t (Success (recAt session (t .slots) .text) [] (chainOf parent (t .slots))))
+    (waitingWith (newRec aWaiting mark parent session (recAt parent (t .slots) .depth + 1) url (g .random) t) t)
+    (step t (successOf session mark [] parent (t .slots)))
 
--- (6), by a ticket's session, where its proxies start, and its service
-unfoldable pub acceptedBy : Validator → ℕ → ℕ → List ℕ → List ℕ → Brought → Table → Step
-acceptedBy v session parent service url g t = if (isPlain v) (step t (YesNo true)) (grantOrTell session parent service url g t)
+-- (6), by a ticket's session, where its proxies start, its mark, and its service
+unfoldable pub acceptedBy : Validator → ℕ → ℕ → ℕ → List ℕ → List ℕ → Brought → Table → Step
+acceptedBy v session parent mark service url g t = if (isPlain v) (step t (YesNo true)) (grantOrTell session parent mark service url g t)
 
 -- what is done by a verdict; t is the table without the ticket
 abbrev pub answeredBy : Validator → Verdict → List ℕ → List ℕ → Brought → Table → Step
 answeredBy v verdict.NoTicket service url g t = step t (failed v InvalidTicket)
 answeredBy v verdict.NoService service url g t = step t (failed v InvalidService)
-answeredBy v (verdict.Accepted session parent) service url g t = acceptedBy v session parent service url g t
+answeredBy v (verdict.Accepted session parent mark) service url g t = acceptedBy v session parent mark service url g t
 
 -- (3) to (6): the ticket r has been removed
 unfoldable pub spentBy : Validator → Rec → Bool → List ℕ → List ℕ → Brought → Table → Step

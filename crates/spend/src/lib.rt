@@ -48,19 +48,20 @@ fn grant_or_tell(
     register: &[u8],
     session: u16,
     parent: u16,
+    mark: u8,
     service: &[u8],
     url: &[u8],
     random: &[u8],
     out: &mut [u8],
 ) -> Outcome
     requires { ⌜ (Brings (now table) (now register) (now url) (now random) (now out)) × (In session (now table)) × (Within parent (now table)) ⌝ }
-    ensures { λ r. ⌜ Done (grantOrTell session parent (now (service .entry)) (now (url .entry)) (bringing (now (register .entry)) (now (random .entry))) (decodeTable (now (table .entry)))) r (now (table .exit)) (now (out .entry)) (now (out .exit)) ⌝ }
+    ensures { λ r. ⌜ Done (grantOrTell session parent mark (now (service .entry)) (now (url .entry)) (bringing (now (register .entry)) (now (random .entry))) (decodeTable (now (table .entry)))) r (now (table .exit)) (now (out .entry)) (now (out .exit)) ⌝ }
 {
     if may_grant(table, register, parent as usize, service, url) {
         let depth = chain::depth_at(table, parent as usize) + 1;
-        return offer::waiting(table, parent, session, depth, url, random, out);
+        return offer::waiting(table, mark, parent, session, depth, url, random, out);
     }
-    chain::say_success(table, session as usize, b"", parent as usize, out)
+    chain::say_success(table, session as usize, mark, b"", parent as usize, out)
 }
 
 // A ticket accepted, which is no longer in the table.
@@ -70,21 +71,42 @@ fn accept(
     validator: Validator,
     session: u16,
     parent: u16,
+    mark: u8,
     service: &[u8],
     url: &[u8],
     random: &[u8],
     out: &mut [u8],
 ) -> Outcome
     requires { ⌜ (Brings (now table) (now register) (now url) (now random) (now out)) × (In session (now table)) × (Within parent (now table)) ⌝ }
-    ensures { λ r. ⌜ Done (acceptedBy validator session parent (now (service .entry)) (now (url .entry)) (bringing (now (register .entry)) (now (random .entry))) (decodeTable (now (table .entry)))) r (now (table .exit)) (now (out .entry)) (now (out .exit)) ⌝ }
+    ensures { λ r. ⌜ Done (acceptedBy validator session parent mark (now (service .entry)) (now (url .entry)) (bringing (now (register .entry)) (now (random .entry))) (decodeTable (now (table .entry)))) r (now (table .exit)) (now (out .entry)) (now (out .exit)) ⌝ }
 {
     match validator {
         Validator::Plain => reply::say_word(out, true),
         Validator::Service => {
-            grant_or_tell(table, register, session, parent, service, url, random, out)
+            grant_or_tell(
+                table,
+                register,
+                session,
+                parent,
+                mark,
+                service,
+                url,
+                random,
+                out,
+            )
         }
         Validator::Proxy => {
-            grant_or_tell(table, register, session, parent, service, url, random, out)
+            grant_or_tell(
+                table,
+                register,
+                session,
+                parent,
+                mark,
+                service,
+                url,
+                random,
+                out,
+            )
         }
     }
 }
@@ -109,12 +131,17 @@ fn spend(
     match verdict {
         Verdict::NoTicket => fail(validator, Code::InvalidTicket, out),
         Verdict::NoService => fail(validator, Code::InvalidService, out),
-        Verdict::Accepted { session, parent } => accept(
+        Verdict::Accepted {
+            session,
+            parent,
+            mark,
+        } => accept(
             table,
             register,
             validator,
             session,
             parent,
+            mark,
             service,
             url,
             random,

@@ -67,6 +67,10 @@ module _ (t : List ℕ) (k : ℕ) {b : List ℕ} (i : In k t) (at : Block k t b)
   unfolding decodeRec
   read-expiry e = e ∙ ap (λ (r : Rec). r .expiry) block-says
 
+  pub read-since : {r : ℕ} → r ≡ num 272 8 b → r ≡ recAt k (decodeTable t .slots) .since
+  unfolding decodeRec
+  read-since e = e ∙ ap (λ (r : Rec). r .since) block-says
+
   pub read-secret : part 24 16 b ≡ recAt k (decodeTable t .slots) .secret
   unfolding decodeRec
   read-secret = ap (λ (r : Rec). r .secret) block-says
@@ -129,43 +133,45 @@ numbers-filled f s g e9 e8 e7 e6 e5 e4 e3 e2 e1 =
     let p9 = laid-next p8 (bytesOf 8 (f .expiry)) 8 refl (lit≤ tt) e9 in
     p9 .eq
 
-pub texts-filled : (x t i s : List ℕ) {l1 l2 l3 l4 l5 l6 : List ℕ} → length s ≡ 512 → length x ≤ 16 → length t ≤ 200 → length i ≤ 16
-    → l6 ≡ spliced l5 272 (zeros 236)
+pub texts-filled : (x t i : List ℕ) (v : ℕ) (s : List ℕ) {l1 l2 l3 l4 l5 l6 l7 : List ℕ} → length s ≡ 512 → length x ≤ 16 → length t ≤ 200 → length i ≤ 16
+    → l7 ≡ spliced l6 280 (zeros 228)
+    → l6 ≡ spliced l5 272 (bytesOf 8 v)
     → l5 ≡ spliced l4 256 (padTo 16 i)
     → l4 ≡ spliced l3 44 (padTo 212 t)
     → l3 ≡ spliced l2 42 (zeros 2)
     → l2 ≡ spliced l1 40 (bytesOf 2 (length t))
     → l1 ≡ spliced s 24 (padTo 16 x)
-    → l6 ≡ spliced s 24 (textsOf x t i)
+    → l7 ≡ spliced s 24 (textsOf x t i v)
 unfolding textsOf
-texts-filled x t i s g hx ht hi e6 e5 e4 e3 e2 e1 =
+texts-filled x t i v s g hx ht hi e7 e6 e5 e4 e3 e2 e1 =
     let p1 = laid-first s 512 24 (padTo 16 x) 16 g (length-pad 16 x hx) e1 in
     let p2 = laid-next p1 (bytesOf 2 (length t)) 2 (length-bytes 2 (length t)) (lit≤ tt) e2 in
     let p3 = laid-next p2 (zeros 2) 2 refl (lit≤ tt) e3 in
     let p4 = laid-next p3 (padTo 212 t) 212 (length-pad 212 t (omega arith)) (lit≤ tt) e4 in
     let p5 = laid-next p4 (padTo 16 i) 16 (length-pad 16 i hi) (lit≤ tt) e5 in
-    let p6 = laid-next p5 (zeros 236) 236 refl (lit≤ tt) e6 in
-    p6 .eq ∙ ap (λ (l : List ℕ). spliced s 24 l) (simp append-assoc)
+    let p6 = laid-next p5 (bytesOf 8 v) 8 (length-bytes 8 v) (lit≤ tt) e6 in
+    let p7 = laid-next p6 (zeros 228) 228 refl (lit≤ tt) e7 in
+    p7 .eq ∙ ap (λ (l : List ℕ). spliced s 24 l) (simp append-assoc)
 
 numbers-long : (f : Fields) → length (numbersOf f) ≡ 24
 unfolding numbersOf bytesOf
 numbers-long f = refl
 
-texts-long : (x t i : List ℕ) → length x ≤ 16 → length t ≤ 200 → length i ≤ 16 → length (textsOf x t i) ≡ 484
+texts-long : (x t i : List ℕ) (v : ℕ) → length x ≤ 16 → length t ≤ 200 → length i ≤ 16 → length (textsOf x t i v) ≡ 484
 unfolding textsOf bytesOf
-texts-long x t i hx ht hi = simp (length-append, length-replicate) (omega arith)
+texts-long x t i v hx ht hi = simp (length-append, length-replicate) (omega arith)
 
 -- a record's block, numbers and texts sealed
-body-of : (f : Fields) (x t i : List ℕ) → length x ≤ 16 → length i ≤ 16 → numbersOf f ++ textsOf x t i ≡ recBody (recOf f x t i)
+body-of : (f : Fields) (x t i : List ℕ) → length x ≤ 16 → length i ≤ 16 → numbersOf f ++ textsOf x t i (f .since) ≡ recBody (recOf f x t i)
 unfolding recBody numbersOf textsOf bytesOf
 body-of f x t i hx hi = rw (pad-full 16 (padTo 16 x) (length-pad 16 x hx), pad-full 16 (padTo 16 i) (length-pad 16 i hi))
 
 pub record-filled : (f : Fields) (x t i s : List ℕ) {l1 l2 l3 : List ℕ} → length s ≡ 512 → length x ≤ 16 → length t ≤ 200 → length i ≤ 16
-    → l3 ≡ sealed (take 508 l2) → l2 ≡ spliced l1 24 (textsOf x t i) → l1 ≡ spliced s 0 (numbersOf f) → l3 ≡ encodeRec (recOf f x t i)
+    → l3 ≡ sealed (take 508 l2) → l2 ≡ spliced l1 24 (textsOf x t i (f .since)) → l1 ≡ spliced s 0 (numbersOf f) → l3 ≡ encodeRec (recOf f x t i)
 unfolding encodeRec
 record-filled f x t i s g hx ht hi e3 e2 e1 =
     let p1 = laid-first s 512 0 (numbersOf f) 24 g (numbers-long f) e1 in
-    let p2 = laid-next p1 (textsOf x t i) 484 (texts-long x t i hx ht hi) (lit≤ tt) e2 in
+    let p2 = laid-next p1 (textsOf x t i (f .since)) 484 (texts-long x t i (f .since) hx ht hi) (lit≤ tt) e2 in
     e3 ∙ ap sealed (front p2 ∙ body-of f x t i hx hi)
 
 pub free-filled : (s : List ℕ) {l1 l2 : List ℕ} → length s ≡ 512 → l2 ≡ spliced l1 508 (bytesOf 4 33292289) → l1 ≡ spliced s 0 (zeros 508) → l2 ≡ encodeRec freeRec
@@ -180,7 +186,7 @@ pub head-filled : (n c x : ℕ) (s : List ℕ) {l1 l2 l3 l4 l5 l6 l7 : List ℕ}
     → l6 ≡ spliced l5 20 (zeros 488)
     → l5 ≡ spliced l4 16 (bytesOf 4 x)
     → l4 ≡ spliced l3 8 (bytesOf 8 c)
-    → l3 ≡ spliced l2 6 (zeros 2)
+    → l3 ≡ spliced l2 6 (bytesOf 2 1)
     → l2 ≡ spliced l1 4 (bytesOf 2 n)
     → l1 ≡ spliced s 0 (84 ∷ 75 ∷ 84 ∷ 83 ∷ [])
     → l7 ≡ sealed (headBody n c x)
@@ -188,13 +194,23 @@ unfolding headBody bytesOf
 head-filled n c x s g e7 e6 e5 e4 e3 e2 e1 =
     let p1 = laid-first s 512 0 (84 ∷ 75 ∷ 84 ∷ 83 ∷ []) 4 g refl e1 in
     let p2 = laid-next p1 (bytesOf 2 n) 2 refl (lit≤ tt) e2 in
-    let p3 = laid-next p2 (zeros 2) 2 refl (lit≤ tt) e3 in
+    let p3 = laid-next p2 (bytesOf 2 1) 2 refl (lit≤ tt) e3 in
     let p4 = laid-next p3 (bytesOf 8 c) 8 refl (lit≤ tt) e4 in
     let p5 = laid-next p4 (bytesOf 4 x) 4 refl (lit≤ tt) e5 in
     let p6 = laid-next p5 (zeros 488) 488 refl (lit≤ tt) e6 in
     e7 ∙ ap sealed (front p6)
 
 -- A waiting grant's block made a grant's
+
+-- its writes in a row
+pub grant-wrote : (e : ℕ) (s : List ℕ) {l1 l2 l3 l4 l5 : List ℕ}
+    → l5 ≡ sealed (take 508 l4)
+    → l4 ≡ spliced l3 256 (zeros 16)
+    → l3 ≡ spliced l2 16 (bytesOf 8 e)
+    → l2 ≡ spliced l1 1 (0 ∷ [])
+    → l1 ≡ spliced s 0 (6 ∷ [])
+    → l5 ≡ sealed (take 508 (spliced (spliced (spliced (spliced s 0 (6 ∷ [])) 1 (0 ∷ [])) 16 (bytesOf 8 e)) 256 (zeros 16)))
+grant-wrote e s e5 e4 e3 e2 e1 = rw (e5, e4, e3, e2, e1)
 
 -- a text in the middle overwritten by one as long
 spliced-mid : (a p y c : List ℕ) (at : ℕ) → length a ≡ at → length p ≡ length y → spliced (a ++ (p ++ c)) at y ≡ a ++ (y ++ c)
@@ -205,21 +221,21 @@ spliced-mid a p y c at h k =
     rw (d, take-at a (p ++ c) at h)
 
 module _ (r : Rec) (z : Sized r) (e : ℕ) where
-  -- after its kind and expiry, and after its IOU secret
+  -- after its kind, mark and expiry, and after its IOU secret
   abbrev lasting : List ℕ → Rec
-  lasting iou = record { kind = 6; mark = r .mark; parent = r .parent; session = r .session; depth = r .depth; serial = r .serial; expiry = e; secret = r .secret; text = r .text; iou = iou }
+  lasting iou = record { kind = 6; mark = 0; parent = r .parent; session = r .session; depth = r .depth; serial = r .serial; expiry = e; secret = r .secret; text = r .text; iou = iou; since = r .since }
 
   abbrev check : List ℕ
   check = bytesOf 4 (houseCheck (recBody r))
 
-  numbers-kept : spliced (spliced (encodeRec r) 0 (6 ∷ [])) 16 (bytesOf 8 e) ≡ recBody (lasting (r .iou)) ++ check
+  numbers-kept : spliced (spliced (spliced (encodeRec r) 0 (6 ∷ [])) 1 (0 ∷ [])) 16 (bytesOf 8 e) ≡ recBody (lasting (r .iou)) ++ check
   unfolding encodeRec sealed recBody bytesOf spliced
   numbers-kept = refl
 
   -- bytes 0 to 255
   abbrev first256 : List ℕ
   first256 =
-      (6 ∷ r .mark ∷ [])
+      (6 ∷ 0 ∷ [])
       ++ (bytesOf 2 (r .parent)
       ++ (bytesOf 2 (r .session)
       ++ ((r .depth ∷ 0 ∷ [])
@@ -235,7 +251,7 @@ module _ (r : Rec) (z : Sized r) (e : ℕ) where
   unfolding bytesOf
   length256 = simp (length-append, length-replicate) (omega (arith, z .secret, z .text))
 
-  split256 : (iou rest : List ℕ) → recBody (lasting iou) ++ rest ≡ first256 ++ (padTo 16 iou ++ (zeros 236 ++ rest))
+  split256 : (iou rest : List ℕ) → recBody (lasting iou) ++ rest ≡ first256 ++ (padTo 16 iou ++ ((bytesOf 8 (r .since) ++ zeros 228) ++ rest))
   unfolding recBody
   split256 iou rest = simp append-assoc
 
@@ -243,10 +259,10 @@ module _ (r : Rec) (z : Sized r) (e : ℕ) where
   iou-cleared =
       let n : length (padTo 16 (r .iou)) ≡ 16 = length-pad 16 (r .iou) (omega (arith, z .iou)) in
       ap (λ (l : List ℕ). spliced l 256 (zeros 16)) (split256 (r .iou) check)
-      ∙ spliced-mid first256 (padTo 16 (r .iou)) (zeros 16) (zeros 236 ++ check) 256 length256 n
+      ∙ spliced-mid first256 (padTo 16 (r .iou)) (zeros 16) ((bytesOf 8 (r .since) ++ zeros 228) ++ check) 256 length256 n
       ∙ sym (split256 (zeros 16) check)
 
-  pub grant-filled : sealed (take 508 (spliced (spliced (spliced (encodeRec r) 0 (6 ∷ [])) 16 (bytesOf 8 e)) 256 (zeros 16))) ≡ encodeRec (lasting (zeros 16))
+  pub grant-filled : sealed (take 508 (spliced (spliced (spliced (spliced (encodeRec r) 0 (6 ∷ [])) 1 (0 ∷ [])) 16 (bytesOf 8 e)) 256 (zeros 16))) ≡ encodeRec (lasting (zeros 16))
   unfolding encodeRec
   grant-filled =
       let n : length (recBody (lasting (zeros 16))) ≡ 508 = length-body (lasting (zeros 16)) (record { secret = z .secret; text = z .text; iou = refl }) in
@@ -264,10 +280,10 @@ pub lent-free : (t y : List ℕ) (k : ℕ) → Fine t → In k t → y ≡ encod
 lent-free t y k f i e = lent-rec t y k freeRec f i free-fits e
 
 -- numbers of their types fit a record
-pub fields-fit : (f : Fields) (x t i : List ℕ) → f .parent < 65536 → f .session < 65536 → f .serial < 4294967296 → f .expiry < 18446744073709551616
+pub fields-fit : (f : Fields) (x t i : List ℕ) → f .parent < 65536 → f .session < 65536 → f .serial < 4294967296 → f .expiry < 18446744073709551616 → f .since < 18446744073709551616
     → length x ≤ 16 → length t ≤ 200 → length i ≤ 16 → Fits (recOf f x t i)
-fields-fit f x t i p s n e hx ht hi =
-    record { parent = p; session = s; serial = n; expiry = e; sized = record { secret = length-pad 16 x hx; text = ht; iou = length-pad 16 i hi } }
+fields-fit f x t i p s n e w hx ht hi =
+    record { parent = p; session = s; serial = n; expiry = e; since = w; sized = record { secret = length-pad 16 x hx; text = ht; iou = length-pad 16 i hi } }
 
 pub lent-head : (t y : List ℕ) (n c x : ℕ) → Fine t → c ≤ lastTime → x < 4294967296 → n ≡ length t / 512 - 1 → y ≡ sealed (headBody n c x)
     → Holds (y ++ drop 512 t) (tableOf c x (decodeTable t .slots))
@@ -280,7 +296,7 @@ lent-head t y n c x f h g m e =
     laid-head t (y ++ drop 512 t) c x f h g (q ∙ ap (spliced t 0) d)
 
 pub lent-grant : (t y : List ℕ) (k s e : ℕ) → Fine t → In k t → s ≡ recAt k (decodeTable t .slots) .session → e ≡ recAt s (decodeTable t .slots) .expiry
-    → y ≡ sealed (take 508 (spliced (spliced (spliced (part (512 * k) (512 * k + 512 - 512 * k) t) 0 (6 ∷ [])) 16 (bytesOf 8 e)) 256 (zeros 16)))
+    → y ≡ sealed (take 508 (spliced (spliced (spliced (spliced (part (512 * k) (512 * k + 512 - 512 * k) t) 0 (6 ∷ [])) 1 (0 ∷ [])) 16 (bytesOf 8 e)) 256 (zeros 16)))
     → Holds (take (512 * k) t ++ (y ++ drop (512 * k + 512 - 512 * k) (drop (512 * k) t))) (put k (granted (recAt k (decodeTable t .slots)) (decodeTable t .slots)) (decodeTable t))
 unfolding granted
 lent-grant t y k s e f i hs he hy =
@@ -290,5 +306,5 @@ lent-grant t y k s e f i hs he hy =
     let q : e ≡ recAt (r .session) (decodeTable t .slots) .expiry = he ∙ rw hs in
     let g : granted r (decodeTable t .slots) ≡ lasting r (z .sized) e (zeros 16) = rw q in
     let fits : Fits (lasting r (z .sized) e (zeros 16)) =
-    record { parent = z .parent; session = z .session; serial = z .serial; expiry = omega (arith, he, fits-of t s f .expiry); sized = record { secret = z .sized .secret; text = z .sized .text; iou = refl } } in
+    record { parent = z .parent; session = z .session; serial = z .serial; expiry = omega (arith, he, fits-of t s f .expiry); since = z .since; sized = record { secret = z .sized .secret; text = z .sized .text; iou = refl } } in
     rw g (lent-rec t y k (lasting r (z .sized) e (zeros 16)) f i fits (hy ∙ rw (w, block-of t k f i) (grant-filled r (z .sized) e)))

@@ -26,6 +26,7 @@ recOf f secret text iou =
       secret = padTo 16 secret;
       text = text;
       iou = padTo 16 iou;
+      since = f .since;
     }
 
 -- bytes 0 to 23 of its block
@@ -42,6 +43,12 @@ numbersOf f =
     ++ bytesOf 8 (f .expiry))))))))
 
 -- and 24 to 507
-unfoldable pub textsOf : List ℕ → List ℕ → List ℕ → List ℕ
-textsOf secret text iou =
-    padTo 16 secret ++ (bytesOf 2 (length text) ++ (zeros 2 ++ (padTo 212 text ++ (padTo 16 iou ++ zeros 236))))
+unfoldable pub textsOf : List ℕ → List ℕ → List ℕ → ℕ → List ℕ
+textsOf secret text iou since =
+    padTo 16 secret
+    ++ (bytesOf 2 (length text)
+    ++ (zeros 2
+    ++ (padTo 212 text
+    ++ (padTo 16 iou
+    ++ (bytesOf 8 since
+    ++ zeros 228)))))

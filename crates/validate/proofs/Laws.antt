@@ -60,7 +60,7 @@ callback-most validator.Proxy q e = url-good validator.Proxy q refl e .0
 -- Presenting decoded values is protocol's presenting
 
 module _ (r : Rec) (q : List ℕ) (g : Brought) (t : Table) (service : List ℕ) (e : r .text ≡ service) where
-  accept-same : (v : Validator) → acceptTicket v r (fromQuery "pgtUrl" q) g t ≡ acceptedBy v (r .session) (proxyParent r) service (callbackIn v q) g t
+  accept-same : (v : Validator) → acceptTicket v r (fromQuery "pgtUrl" q) g t ≡ acceptedBy v (r .session) (proxyParent r) (r .mark) service (callbackIn v q) g t
   unfolding acceptTicket acceptedBy grantOrTell grants mayGrant waitingStep callbackIn
   accept-same validator.Plain = refl
   accept-same validator.Service = rw e
@@ -75,7 +75,7 @@ judge-same v r q g t = go (eqb (r .kind) aProxy && not (takesProxies v)) (presen
 
     go : (a b c : Bool) → same (r .text) s ≡ c
         → if a (step t (failed v InvalidTicket)) (if b (step t (failed v InvalidTicket)) (if c (acceptTicket v r (fromQuery "pgtUrl" q) g t) (step t (failed v InvalidService))))
-        ≡ answeredBy v (if a verdict.NoTicket (if b verdict.NoTicket (if c (verdict.Accepted (r .session) (proxyParent r)) verdict.NoService))) s (callbackIn v q) g t
+        ≡ answeredBy v (if a verdict.NoTicket (if b verdict.NoTicket (if c (verdict.Accepted (r .session) (proxyParent r) (r .mark)) verdict.NoService))) s (callbackIn v q) g t
     go true b c e = refl
     go false true c e = refl
     go false false true e = accept-same r q g t s (same-eq (r .text) s e) v

@@ -38,9 +38,9 @@ module _ (v : Validator) (renew : Bool) (service : List ℕ) (r : Rec) (k : ℕ)
       is-own : own ≡ same (r .text) service
       is-own = o ∙ ap (λ (s : List ℕ). same s service) t
 
-      pub taken : own ≡ true → (s p : ℕ) → s ≡ r .session → p ≡ proxyParent r → verdict.Accepted s p ≡ verdictOf v renew service r
+      pub taken : own ≡ true → (s p y : ℕ) → s ≡ r .session → p ≡ proxyParent r → y ≡ r .mark → verdict.Accepted s p y ≡ verdictOf v renew service r
       unfolding verdictOf
-      taken y s p es ep = rw (native, fresh, sym is-own ∙ y, es, ep)
+      taken i s p y es ep ey = rw (native, fresh, sym is-own ∙ i, es, ep, ey)
 
       pub other : own ≡ false → verdict.NoService ≡ verdictOf v renew service r
       unfolding verdictOf

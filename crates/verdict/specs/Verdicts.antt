@@ -16,5 +16,5 @@ unfoldable pub verdictOf : Validator → Bool → List ℕ → Rec → Verdict
 verdictOf v renew service r =
     if (eqb (r .kind) aProxy && not (takesProxies v)) verdict.NoTicket
     (if (renew && eqb (r .mark) 0) verdict.NoTicket
-    (if (same (r .text) service) (verdict.Accepted (r .session) (proxyParent r))
+    (if (same (r .text) service) (verdict.Accepted (r .session) (proxyParent r) (r .mark))
     verdict.NoService))

@@ -7,11 +7,11 @@ ghost use Rattle.protocol.specs.Steps.{takesProxies, proxyParent};
 ghost use Rattle.protocol.specs.Held.{Fine, In};
 ghost use Rattle.verdict.specs.Verdicts.{verdictOf};
 
-// Of an accepted ticket: its session, and where its proxies start, 0 for none.
+// Of an accepted ticket: its session, where its proxies start, 0 for none, and its mark.
 pub enum Verdict {
     NoTicket,
     NoService,
-    Accepted { session: u16, parent: u16 },
+    Accepted { session: u16, parent: u16, mark: u8 },
 }
 
 // Only proxyValidate takes proxy tickets.
@@ -57,7 +57,12 @@ pub fn judge(
     if its_own {
         let session = table::session_of(table, slot);
         let parent = proxy_parent(table, slot);
-        return Verdict::Accepted { session, parent };
+        let mark = table::mark_of(table, slot);
+        return Verdict::Accepted {
+            session,
+            parent,
+            mark,
+        };
     }
     Verdict::NoService
 }

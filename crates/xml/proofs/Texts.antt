@@ -5,15 +5,17 @@ use mathlib.Core.List.{List, [], _∷_, _++_, append-assoc}
 use Prim.Native.Nat.{ℕ, _≤_}
 use native.Mathlib.Omega.{arith}
 use lib.ListN.{length}
+use borrow.Author.Tests.{eq-eqb, ne-eqb}
 use Rattle.protocol.specs.Bytes.{ascii}
-use Rattle.protocol.specs.Answers.{Success, Failure, ProxySuccess, ProxyFailure, codeText, inResponse, proxyLines, proxiesText, successText, failureText, proxySuccessText, replyText}
+use Rattle.protocol.specs.Calendar.{dateText}
+use Rattle.protocol.specs.Answers.{Success, Failure, ProxySuccess, ProxyFailure, codeText, inResponse, proxyLines, proxiesText, successText, failureText, proxySuccessText, replyText, attributesText, markText}
 use Rattle.protocol.specs.Written.{Room, Wrote}
 use Rattle.protocol.proofs.Sizes.{AllShort, success, failure, ticket, refusal}
-use Rattle.text.proofs.Splice.{wrote-as, room-as, room-first}
+use Rattle.text.proofs.Splice.{wrote-as, room-as, room-first, wrote-none, room-next, then}
 use Rattle.xml.specs.declared.Code.{Code}
 use Rattle.template.specs.Template.{slot, fillIn}
 use Rattle.xml.specs.Codes.{codeOf}
-use Rattle.xml.specs.Success.{successHead, successTail, proxiesOpen, proxiesClose, proxyLine}
+use Rattle.xml.specs.Success.{successHead, successTail, proxiesOpen, proxiesClose, proxyLine, successUser, attributesClose, attributesOpen, iouLine}
 use Rattle.template.proofs.Filling.{fits}
 
 -- a proxy ticket
@@ -72,12 +74,10 @@ module _ (d : List ℕ) (x : Code) where
   refusal-wrote e to w = w
 
 -- a success is its head, its proxies and its tail
-pub success-parts : (user iou : List ℕ) (proxies : List (List ℕ)) → replyText (Success user iou proxies) ≡ successHead user iou ++ (proxiesText proxies ++ successTail)
-unfolding replyText successText successHead inResponse
-success-parts user iou proxies = simp append-assoc
-
-pub success-alone : (user iou : List ℕ) → replyText (Success user iou []) ≡ successHead user iou ++ successTail
-success-alone user iou = success-parts user iou []
+pub success-parts : (user : List ℕ) (since mark : ℕ) (iou : List ℕ) (proxies : List (List ℕ))
+    → replyText (Success user since mark iou proxies) ≡ successHead user since mark iou ++ (proxiesText proxies ++ successTail)
+unfolding replyText successText successHead successUser inResponse
+success-parts user since mark iou proxies = simp append-assoc
 
 -- its proxies, where there are any, a line each
 pub proxies-parts : (p : List ℕ) (ps : List (List ℕ)) → proxiesText (p ∷ ps) ≡ proxiesOpen ++ (proxyLines (p ∷ ps) ++ proxiesClose)
@@ -88,45 +88,122 @@ unfolding proxyLines proxyLine
 proxy-lines-parts p ps = simp append-assoc
 
 -- and there is room for it all
-pub success-room : (d user iou : List ℕ) (proxies : List (List ℕ)) → 8192 ≤ length d → length user ≤ 200 → length iou ≤ 64 → length proxies ≤ 4 → AllShort proxies
-    → Room d 0 (successHead user iou ++ (proxiesText proxies ++ successTail))
-success-room d user iou proxies h k l m a = room-as (success-parts user iou proxies) (fits d h (success user iou proxies k l m a))
+pub success-room : (d user : List ℕ) (since mark : ℕ) (iou : List ℕ) (proxies : List (List ℕ)) → 8192 ≤ length d → length user ≤ 200 → length iou ≤ 64 → length proxies ≤ 4 → AllShort proxies
+    → Room d 0 (successHead user since mark iou ++ (proxiesText proxies ++ successTail))
+success-room d user since mark iou proxies h k l m a = room-as (success-parts user since mark iou proxies) (fits d h (success user since mark iou proxies k l m a))
 
--- its head, without an IOU and with one
-abbrev headPlain : List ℕ
-headPlain = ascii "<cas:serviceResponse xmlns:cas=\"http://www.yale.edu/tp/cas\">\n  <cas:authenticationSuccess>\n    <cas:user>[</cas:user>\n"
+-- its user
+abbrev userTemplate : List ℕ
+userTemplate = ascii "<cas:serviceResponse xmlns:cas=\"http://www.yale.edu/tp/cas\">\n  <cas:authenticationSuccess>\n    <cas:user>[</cas:user>\n"
 
-abbrev headGranted : List ℕ
-headGranted = ascii "<cas:serviceResponse xmlns:cas=\"http://www.yale.edu/tp/cas\">\n  <cas:authenticationSuccess>\n    <cas:user>[</cas:user>\n    <cas:proxyGrantingTicket>]</cas:proxyGrantingTicket>\n"
+user-text : (user : List ℕ) → fillIn userTemplate 0 user [] [] ≡ successUser user
+unfolding fillIn slot successUser
+user-text user = refl
 
-head-plain-text : (user iou : List ℕ) → length iou ≡ 0 → fillIn headPlain 0 user [] [] ≡ successHead user iou
-unfolding fillIn slot successHead
-head-plain-text user [] z = refl
-head-plain-text user (b ∷ s) z = absurd (omega arith)
+pub user-room : (d user : List ℕ) → Room d 0 (successUser user) → Room d 0 (fillIn userTemplate 0 user [] [])
+user-room d user r = room-as (sym (user-text user)) r
 
-head-granted-text : (user iou : List ℕ) → (length iou ≡ 0 → ⊥) → fillIn headGranted 0 user iou [] ≡ successHead user iou
-unfolding fillIn slot successHead
-head-granted-text user [] z = absurd (z refl)
-head-granted-text user (b ∷ s) z = refl
+pub user-wrote : (d user e : List ℕ) (to : ℕ) → Wrote d 0 e to (fillIn userTemplate 0 user [] []) → Wrote d 0 e to (successUser user)
+user-wrote d user e to w = wrote-as (user-text user) w
 
-module _ (d user iou : List ℕ) where
-  head-room : 8192 ≤ length d → length user ≤ 200 → length iou ≤ 64 → Room d 0 (successHead user iou)
+-- its attributes
+abbrev wordTemplate : List ℕ
+wordTemplate = ascii "</cas:authenticationDate>\n      <cas:longTermAuthenticationRequestTokenUsed>false</cas:longTermAuthenticationRequestTokenUsed>\n      <cas:isFromNewLogin>{</cas:isFromNewLogin>\n    </cas:attributes>\n"
+
+word-text : (word : List ℕ) → fillIn wordTemplate 0 word [] [] ≡ attributesClose word
+unfolding fillIn slot attributesClose
+word-text word = refl
+
+pub word-room : (d word : List ℕ) (at : ℕ) → Room d at (attributesClose word) → Room d at (fillIn wordTemplate 0 word [] [])
+word-room d word at r = room-as (sym (word-text word)) r
+
+pub word-wrote : (d word e : List ℕ) (at to : ℕ) → Wrote d at e to (fillIn wordTemplate 0 word [] []) → Wrote d at e to (attributesClose word)
+word-wrote d word e at to w = wrote-as (word-text word) w
+
+module _ (d : List ℕ) (at mark : ℕ) where
+  pub false-room : mark ≡ 0 → Room d at (attributesClose (markText mark)) → Room d at (attributesClose (ascii "false"))
+  false-room z r = rw (eq-eqb mark 0 z) at r
+
+  pub false-wrote : (e : List ℕ) (to : ℕ) → mark ≡ 0 → Wrote d at e to (attributesClose (ascii "false")) → Wrote d at e to (attributesClose (markText mark))
+  false-wrote e to z w = rw (eq-eqb mark 0 z) w
+
+  pub true-room : (mark ≡ 0 → ⊥) → Room d at (attributesClose (markText mark)) → Room d at (attributesClose (ascii "true"))
+  true-room z r = rw (ne-eqb mark 0 z) at r
+
+  pub true-wrote : (e : List ℕ) (to : ℕ) → (mark ≡ 0 → ⊥) → Wrote d at e to (attributesClose (ascii "true")) → Wrote d at e to (attributesClose (markText mark))
+  true-wrote e to z w = rw (ne-eqb mark 0 z) w
+
+attributes-parts : (since mark : ℕ) → attributesText since mark ≡ attributesOpen ++ (dateText since ++ attributesClose (markText mark))
+unfolding attributesText attributesClose
+attributes-parts since mark = refl
+
+module _ (d : List ℕ) (at since mark : ℕ) (r : Room d at (attributesText since mark)) where
+  pub attributes-room : Room d at attributesOpen
+  attributes-room = room-first d at attributesOpen (dateText since ++ attributesClose (markText mark)) (room-as (attributes-parts since mark) r)
+
+  module _ (e : List ℕ) (date : ℕ) (w : Wrote d at e date attributesOpen) where
+    behind-open : Room e date (dateText since ++ attributesClose (markText mark))
+    behind-open = room-next d e at date attributesOpen (dateText since ++ attributesClose (markText mark)) (room-as (attributes-parts since mark) r) w
+
+    pub date-room : Room e date (dateText since)
+    date-room = room-first e date (dateText since) (attributesClose (markText mark)) behind-open
+
+    module _ (f : List ℕ) (to : ℕ) (v : Wrote e date f to (dateText since)) where
+      pub mark-room : Room f to (attributesClose (markText mark))
+      mark-room = room-next e f date to (dateText since) (attributesClose (markText mark)) behind-open v
+
+      pub attributes-wrote : (g : List ℕ) (next : ℕ) → Wrote f to g next (attributesClose (markText mark)) → Wrote d at g next (attributesText since mark)
+      attributes-wrote g next u = wrote-as (sym (attributes-parts since mark)) (then w (then v u))
+
+-- its IOU, or none
+abbrev iouTemplate : List ℕ
+iouTemplate = ascii "    <cas:proxyGrantingTicket>[</cas:proxyGrantingTicket>\n"
+
+iou-text : (iou : List ℕ) → (length iou ≡ 0 → ⊥) → fillIn iouTemplate 0 iou [] [] ≡ iouLine iou
+unfolding fillIn slot
+iou-text [] z = absurd (z refl)
+iou-text (b ∷ s) z = refl
+
+module _ (d iou : List ℕ) (at : ℕ) where
+  pub no-iou : length iou ≡ 0 → Room d at (iouLine iou) → Wrote d at d at (iouLine iou)
+  no-iou z r = none iou z r
+    where
+      none : (s : List ℕ) → length s ≡ 0 → Room d at (iouLine s) → Wrote d at d at (iouLine s)
+      none [] z r = wrote-none d at (omega (arith, r .fits))
+      none (b ∷ s) z r = absurd (omega arith)
+
+  pub iou-room : (length iou ≡ 0 → ⊥) → Room d at (iouLine iou) → Room d at (fillIn iouTemplate 0 iou [] [])
+  iou-room z r = room-as (sym (iou-text iou z)) r
+
+  pub iou-wrote : (e : List ℕ) (to : ℕ) → (length iou ≡ 0 → ⊥) → Wrote d at e to (fillIn iouTemplate 0 iou [] []) → Wrote d at e to (iouLine iou)
+  iou-wrote e to z w = wrote-as (iou-text iou z) w
+
+-- its head
+head-parts : (user : List ℕ) (since mark : ℕ) (iou : List ℕ) → successHead user since mark iou ≡ successUser user ++ (attributesText since mark ++ iouLine iou)
+unfolding successHead
+head-parts user since mark iou = refl
+
+module _ (d user : List ℕ) (since mark : ℕ) (iou : List ℕ) where
+  head-room : 8192 ≤ length d → length user ≤ 200 → length iou ≤ 64 → Room d 0 (successUser user ++ (attributesText since mark ++ iouLine iou))
   unfolding AllShort
-  head-room h k l = room-first d 0 (successHead user iou) (proxiesText [] ++ successTail) (success-room d user iou [] h k l (omega arith) tt)
+  head-room h k l = room-as (head-parts user since mark iou) (room-first d 0 (successHead user since mark iou) (proxiesText [] ++ successTail) (success-room d user since mark iou [] h k l (omega arith) tt))
 
-  module _ (z : length iou ≡ 0) where
-    pub head-plain-room : 8192 ≤ length d → length user ≤ 200 → length iou ≤ 64 → Room d 0 (fillIn headPlain 0 user [] [])
-    head-plain-room h k l = room-as (sym (head-plain-text user iou z)) (head-room h k l)
+  pub named-room : 8192 ≤ length d → length user ≤ 200 → length iou ≤ 64 → Room d 0 (successUser user)
+  named-room h k l = room-first d 0 (successUser user) (attributesText since mark ++ iouLine iou) (head-room h k l)
 
-    pub head-plain-wrote : (e : List ℕ) (to : ℕ) → Wrote d 0 e to (fillIn headPlain 0 user [] []) → Wrote d 0 e to (successHead user iou)
-    head-plain-wrote e to w = wrote-as (head-plain-text user iou z) w
+  module _ (e : List ℕ) (named : ℕ) (w : Wrote d 0 e named (successUser user)) where
+    behind-user : 8192 ≤ length d → length user ≤ 200 → length iou ≤ 64 → Room e named (attributesText since mark ++ iouLine iou)
+    behind-user h k l = room-next d e 0 named (successUser user) (attributesText since mark ++ iouLine iou) (head-room h k l) w
 
-  module _ (z : length iou ≡ 0 → ⊥) where
-    pub head-granted-room : 8192 ≤ length d → length user ≤ 200 → length iou ≤ 64 → Room d 0 (fillIn headGranted 0 user iou [])
-    head-granted-room h k l = room-as (sym (head-granted-text user iou z)) (head-room h k l)
+    pub told-room : 8192 ≤ length d → length user ≤ 200 → length iou ≤ 64 → Room e named (attributesText since mark)
+    told-room h k l = room-first e named (attributesText since mark) (iouLine iou) (behind-user h k l)
 
-    pub head-granted-wrote : (e : List ℕ) (to : ℕ) → Wrote d 0 e to (fillIn headGranted 0 user iou []) → Wrote d 0 e to (successHead user iou)
-    head-granted-wrote e to w = wrote-as (head-granted-text user iou z) w
+    module _ (f : List ℕ) (told : ℕ) (v : Wrote e named f told (attributesText since mark)) where
+      pub last-room : 8192 ≤ length d → length user ≤ 200 → length iou ≤ 64 → Room f told (iouLine iou)
+      last-room h k l = room-next e f named told (attributesText since mark) (iouLine iou) (behind-user h k l) v
+
+      pub head-wrote : (g : List ℕ) (next : ℕ) → Wrote f told g next (iouLine iou) → Wrote d 0 g next (successHead user since mark iou)
+      head-wrote g next u = wrote-as (sym (head-parts user since mark iou)) (then w (then v u))
 
 -- a proxy's line
 proxy-text : (p : List ℕ) → fillIn (ascii "      <cas:proxy>[</cas:proxy>\n") 0 p [] [] ≡ proxyLine p

@@ -10,7 +10,7 @@ use Rattle.protocol.specs.Written.{Room, Wrote}
 use Rattle.protocol.proofs.Sizes.{AllShort}
 use Rattle.text.proofs.Splice.{then, wrote-none, wrote-as, room-as, room-first, room-next}
 use Rattle.xml.specs.Success.{successHead, successTail, proxiesOpen, proxiesClose, proxyLine}
-use Rattle.xml.proofs.Texts.{success-parts, success-alone, success-room, proxies-parts, proxy-lines-parts}
+use Rattle.xml.proofs.Texts.{success-parts, success-room, proxies-parts, proxy-lines-parts}
 
 -- one proxy, then the others
 module _ (d p : List ℕ) (ps : List (List ℕ)) (at : ℕ) where
@@ -48,10 +48,10 @@ module _ (d p : List ℕ) (ps : List (List ℕ)) (at : ℕ) where
       proxies-wrote g next u = wrote-as (sym (proxies-parts p ps)) (then w (then v u))
 
 -- head, proxies and tail
-module _ (d user iou : List ℕ) (ps : List (List ℕ)) (e : List ℕ) (to : ℕ) (w : Wrote d 0 e to (successHead user iou)) where
+module _ (d user : List ℕ) (since mark : ℕ) (iou : List ℕ) (ps : List (List ℕ)) (e : List ℕ) (to : ℕ) (w : Wrote d 0 e to (successHead user since mark iou)) where
   module _ (h : 8192 ≤ length d) (k : length user ≤ 200) (l : length iou ≤ 64) (m : length ps ≤ 4) (a : AllShort ps) where
     after-head : Room e to (proxiesText ps ++ successTail)
-    after-head = room-next d e 0 to (successHead user iou) (proxiesText ps ++ successTail) (success-room d user iou ps h k l m a) w
+    after-head = room-next d e 0 to (successHead user since mark iou) (proxiesText ps ++ successTail) (success-room d user since mark iou ps h k l m a) w
 
     pub proxies-room : Room e to (proxiesText ps)
     proxies-room = room-first e to (proxiesText ps) successTail after-head
@@ -59,14 +59,5 @@ module _ (d user iou : List ℕ) (ps : List (List ℕ)) (e : List ℕ) (to : ℕ
     pub tail-room : (f : List ℕ) (on : ℕ) → Wrote e to f on (proxiesText ps) → Room f on successTail
     tail-room f on v = room-next e f to on (proxiesText ps) successTail after-head v
 
-  pub success-wrote : (f g : List ℕ) (on next : ℕ) → Wrote e to f on (proxiesText ps) → Wrote f on g next successTail → Wrote d 0 g next (replyText (Success user iou ps))
-  success-wrote f g on next v u = wrote-as (sym (success-parts user iou ps)) (then w (then v u))
-
--- without proxies
-module _ (d user iou e : List ℕ) (to : ℕ) (w : Wrote d 0 e to (successHead user iou)) where
-  pub alone-tail-room : 8192 ≤ length d → length user ≤ 200 → length iou ≤ 64 → Room e to successTail
-  unfolding AllShort
-  alone-tail-room h k l = room-next d e 0 to (successHead user iou) successTail (success-room d user iou [] h k l (omega arith) tt) w
-
-  pub alone-wrote : (g : List ℕ) (next : ℕ) → Wrote e to g next successTail → Wrote d 0 g next (replyText (Success user iou []))
-  alone-wrote g next u = wrote-as (sym (success-alone user iou)) (then w u)
+  pub success-wrote : (f g : List ℕ) (on next : ℕ) → Wrote e to f on (proxiesText ps) → Wrote f on g next successTail → Wrote d 0 g next (replyText (Success user since mark iou ps))
+  success-wrote f g on next v u = wrote-as (sym (success-parts user since mark iou ps)) (then w (then v u))

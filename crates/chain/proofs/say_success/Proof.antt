@@ -1,11 +1,11 @@
 -- Head, proxies and tail, written one after the other, are the success.
 use borrow.Author.Needs.{needs}
-use Rattle.chain.proofs.Laws.{user-short, proxies-room, tail-room, success-said}
+use Rattle.chain.proofs.Laws.{user-short, since-known, proxies-room, tail-room, success-said}
 use Rattle.chain.proofs.say_success.Statement.{statement}
 use Rattle.chain.proofs.say_success.Tie as tie
 
 put-success-head-requires : tie.Need-put-success-head-requires
-put-success-head-requires c κs = search (needs, user-short)
+put-success-head-requires c κs = search (needs, user-short, since-known)
 
 put-proxies-requires : tie.Need-put-proxies-requires
 put-proxies-requires c κs = search (needs, proxies-room)
@@ -20,6 +20,7 @@ pub say-success-spec : {M : Type 1} → statement M
 say-success-spec =
     tie.close
     (tie.spec
+    (λ c κs. search needs)
     (λ c κs. search needs)
     put-success-head-requires
     put-proxies-requires

@@ -1,4 +1,4 @@
--- Its session and parent are where the telling starts.
+-- Its session, parent and mark are where the telling starts.
 use borrow.Author.Needs.{needs}
 use Rattle.finish.proofs.Laws.{tell-ready, tell-said}
 use Rattle.finish.proofs.tell.Statement.{statement}
@@ -18,6 +18,7 @@ tell-spec =
     (λ c. search needs)
     (λ c κs. search needs)
     (λ c. search needs)
+    (λ c κs. search needs)
     say-success-requires
     (λ c. search needs)
     returns)

@@ -30,5 +30,6 @@ record-right-spec =
     text-right-requires
     (λ c κs. search needs)
     (λ c κs. search needs)
+    (λ c κs. search needs)
     returns
     returns-2)

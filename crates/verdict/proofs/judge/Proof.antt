@@ -29,5 +29,6 @@ judge-spec =
     returns-2
     (λ c κs. search needs)
     (λ c κs. search needs)
+    (λ c κs. search needs)
     returns-3
     returns-4)

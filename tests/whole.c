@@ -1,0 +1,4 @@
+/* The plain C program once more, with loops over bytes that run to their end, as the archive's does: the compiler takes many bytes at a time. */
+#define WHOLE
+#define plain_answer plain_whole
+#include "plain.c"
