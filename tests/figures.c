@@ -213,6 +213,17 @@ static int compare_ways(int records)
     WAY(validating(records, coded, "", records, "ST-"), panels[PANELS * BLOCK - 1] ^= 1);
     panels[PANELS * BLOCK - 1] ^= 1;
     WAY(signing_in(records, "ann", coded, true, 0), (void)0);
+    WAY(signing_in(records, "Mu%C3%B1oz", coded, true, 0), (void)0);
+    WAY(signing_in(records, "Jos\xC3\xA9", coded, true, 0), (void)0);
+    WAY(signing_in(records, "%EF%BF%BF%F4%8F%BF%BF", coded, true, 0), (void)0);
+    WAY(signing_in(records, "a%C3", coded, true, 0), (void)0);
+    WAY(signing_in(records, "%C0%AF", coded, true, 0), (void)0);
+    WAY(signing_in(records, "%ED%A0%80", coded, true, 0), (void)0);
+    WAY(signing_in(records, "%F4%90%80%80", coded, true, 0), (void)0);
+    WAY(signing_in(records, "a%7F", coded, true, 0), (void)0);
+    WAY(validating(records, coded, "", records, "ST-"), set(1, 44, 2, 0xB1C3));
+    WAY(validating(records, coded, "", records, "ST-"), set(1, 44, 2, 0xAFC0));
+    WAY(validating(records, coded, "", records, "ST-"), set(records, 44, 2, 0xB1C3));
     WAY(signing_in(records, "ann", coded, true, 1), (void)0);
     WAY(signing_in(records, "b%2Bo+b", coded, true, 1), (void)0);
     WAY(signing_in(records, "ann", "", true, 0), (void)0);

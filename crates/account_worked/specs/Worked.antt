@@ -10,6 +10,7 @@ use Rattle.protocol.specs.declared.Method.{Method}
 use Rattle.protocol.specs.declared.Method.the-variants as method
 use Rattle.protocol.specs.declared.Validator.the-variants as validator
 use Rattle.protocol.specs.Bytes.{ascii, zeros, joined, same, among, allDiffer, allWithin, holds, leOf, bytesOf, spliced, upTo, past, cuts, digits, hex, blocks}
+use Rattle.protocol.specs.Utf8.{noPoint, announced, withTails, notBelow, pointAt, pointsFrom, points, pointRight, pointsRight, nameRight}
 use Rattle.protocol.specs.Blocks.{checkFrom, houseCheck, sealed, checkRight}
 use Rattle.protocol.specs.Tickets.{deepest, markMost, depthLeast, depthMost, textLeast, textMost, secretFrom, iouFrom, sinceFrom, ticketText, iouText}
 use Rattle.protocol.specs.Records.{recBody, encodeRec, decodeRec, nameOf, textRight, fieldsRight, sinceRight, serialRight, expiryRight, ownRight}
@@ -88,7 +89,7 @@ calls =
 
 -- the whole life of the table
 whole : Lived
-unfolding lived calls asked register joined same among allDiffer allWithin holds leOf bytesOf spliced upTo past cuts digits hex blocks checkFrom houseCheck sealed checkRight deepest markMost depthLeast depthMost textLeast textMost secretFrom iouFrom sinceFrom ticketText iouText recBody encodeRec decodeRec nameOf textRight fieldsRight sinceRight serialRight expiryRight ownRight headBody encodeTable decodeTable slotFrom countKind serialTaken serialsDiffer sessionRight grantRight parentRight allRight loginCap rulesHold tableLawful formatted entryBody encodeEntry decodeEntry decodeRegister addressRight entryRight allEntriesRight servicesOf registerLawful registered callbackOf pathNamed notEmpty pieces countNamed firstNamed occurrences rawValue hexValue unitOf skipOf decodedFrom valueMost charsRight valueRight loginNames bodyNames logoutNames validatorNames proxyNames badName malformed valueOf present escapedByte escaped extended pageHead formText inResponse proxyLines isLeap yearLength monthLength yearFrom yearOf monthFrom monthOf dateOf padded dayText clockText dateText attributesText successText failureText proxySuccessText callbackText replyText replyAnswer tick endSession isNamed slotNamed ticketSlot slotFor roomFor expiryFor newRec add chainFrom chainOf formWith formStep ticketWith ticketStep signedOn loginPage unknownService loginGet admitted newSession needs issueAll accepted credentials loginTicket loginPost waitingWith waitingStep grants acceptTicket judgeTicket presented validate granted waitingSlot finished finishAt finish proxyWith proxyBy proxy linkTo logout outcomeWith answerRefusal stepOf delivered answerOf finishRefusal finishOf formatRefusal formatOf checkOf formRefusal formOf served eventOf tableAfter historyOf readLoginGet readSession readLoginPost readValidator readProxy readFinish readGet readPost readCall read trailOf closeAll enter raiseAll pass look note notebook tally openerOf spentLive calledOf originOf grantOf issuedBy acceptedBy issued acceptedOfAccount waitingAmong waitingIn successes
+unfolding lived calls asked register joined same among allDiffer allWithin noPoint announced withTails notBelow pointAt pointsFrom points pointRight pointsRight nameRight holds leOf bytesOf spliced upTo past cuts digits hex blocks checkFrom houseCheck sealed checkRight deepest markMost depthLeast depthMost textLeast textMost secretFrom iouFrom sinceFrom ticketText iouText recBody encodeRec decodeRec nameOf textRight fieldsRight sinceRight serialRight expiryRight ownRight headBody encodeTable decodeTable slotFrom countKind serialTaken serialsDiffer sessionRight grantRight parentRight allRight loginCap rulesHold tableLawful formatted entryBody encodeEntry decodeEntry decodeRegister addressRight entryRight allEntriesRight servicesOf registerLawful registered callbackOf pathNamed notEmpty pieces countNamed firstNamed occurrences rawValue hexValue unitOf skipOf decodedFrom valueMost charsRight valueRight loginNames bodyNames logoutNames validatorNames proxyNames badName malformed valueOf present escapedByte escaped extended pageHead formText inResponse proxyLines isLeap yearLength monthLength yearFrom yearOf monthFrom monthOf dateOf padded dayText clockText dateText attributesText successText failureText proxySuccessText callbackText replyText replyAnswer tick endSession isNamed slotNamed ticketSlot slotFor roomFor expiryFor newRec add chainFrom chainOf formWith formStep ticketWith ticketStep signedOn loginPage unknownService loginGet admitted newSession needs issueAll accepted credentials loginTicket loginPost waitingWith waitingStep grants acceptTicket judgeTicket presented validate granted waitingSlot finished finishAt finish proxyWith proxyBy proxy linkTo logout outcomeWith answerRefusal stepOf delivered answerOf finishRefusal finishOf formatRefusal formatOf checkOf formRefusal formOf served eventOf tableAfter historyOf readLoginGet readSession readLoginPost readValidator readProxy readFinish readGet readPost readCall read trailOf closeAll enter raiseAll pass look note notebook tally openerOf spentLive calledOf originOf grantOf issuedBy acceptedBy issued acceptedOfAccount waitingAmong waitingIn successes
 whole = lived (formatOf (zeros 4608) 999 .table) calls
 
 -- the texts of tickets whose secrets are zeros
@@ -152,12 +153,12 @@ said =
     ∷ []
 
 pub trailIn : Lived → List Item
-unfolding joined same among allDiffer allWithin holds leOf bytesOf spliced upTo past cuts digits hex blocks checkFrom houseCheck sealed checkRight deepest markMost depthLeast depthMost textLeast textMost secretFrom iouFrom sinceFrom ticketText iouText recBody encodeRec decodeRec nameOf textRight fieldsRight sinceRight serialRight expiryRight ownRight headBody encodeTable decodeTable slotFrom countKind serialTaken serialsDiffer sessionRight grantRight parentRight allRight loginCap rulesHold tableLawful formatted entryBody encodeEntry decodeEntry decodeRegister addressRight entryRight allEntriesRight servicesOf registerLawful registered callbackOf pathNamed notEmpty pieces countNamed firstNamed occurrences rawValue hexValue unitOf skipOf decodedFrom valueMost charsRight valueRight loginNames bodyNames logoutNames validatorNames proxyNames badName malformed valueOf present escapedByte escaped extended pageHead formText inResponse proxyLines isLeap yearLength monthLength yearFrom yearOf monthFrom monthOf dateOf padded dayText clockText dateText attributesText successText failureText proxySuccessText callbackText replyText replyAnswer tick endSession isNamed slotNamed ticketSlot slotFor roomFor expiryFor newRec add chainFrom chainOf formWith formStep ticketWith ticketStep signedOn loginPage unknownService loginGet admitted newSession needs issueAll accepted credentials loginTicket loginPost waitingWith waitingStep grants acceptTicket judgeTicket presented validate granted waitingSlot finished finishAt finish proxyWith proxyBy proxy linkTo logout outcomeWith answerRefusal stepOf delivered answerOf finishRefusal finishOf formatRefusal formatOf checkOf formRefusal formOf served eventOf tableAfter historyOf readLoginGet readSession readLoginPost readValidator readProxy readFinish readGet readPost readCall read trailOf closeAll enter raiseAll pass look note notebook tally openerOf spentLive calledOf originOf grantOf issuedBy acceptedBy issued acceptedOfAccount waitingAmong waitingIn successes
+unfolding joined same among allDiffer allWithin noPoint announced withTails notBelow pointAt pointsFrom points pointRight pointsRight nameRight holds leOf bytesOf spliced upTo past cuts digits hex blocks checkFrom houseCheck sealed checkRight deepest markMost depthLeast depthMost textLeast textMost secretFrom iouFrom sinceFrom ticketText iouText recBody encodeRec decodeRec nameOf textRight fieldsRight sinceRight serialRight expiryRight ownRight headBody encodeTable decodeTable slotFrom countKind serialTaken serialsDiffer sessionRight grantRight parentRight allRight loginCap rulesHold tableLawful formatted entryBody encodeEntry decodeEntry decodeRegister addressRight entryRight allEntriesRight servicesOf registerLawful registered callbackOf pathNamed notEmpty pieces countNamed firstNamed occurrences rawValue hexValue unitOf skipOf decodedFrom valueMost charsRight valueRight loginNames bodyNames logoutNames validatorNames proxyNames badName malformed valueOf present escapedByte escaped extended pageHead formText inResponse proxyLines isLeap yearLength monthLength yearFrom yearOf monthFrom monthOf dateOf padded dayText clockText dateText attributesText successText failureText proxySuccessText callbackText replyText replyAnswer tick endSession isNamed slotNamed ticketSlot slotFor roomFor expiryFor newRec add chainFrom chainOf formWith formStep ticketWith ticketStep signedOn loginPage unknownService loginGet admitted newSession needs issueAll accepted credentials loginTicket loginPost waitingWith waitingStep grants acceptTicket judgeTicket presented validate granted waitingSlot finished finishAt finish proxyWith proxyBy proxy linkTo logout outcomeWith answerRefusal stepOf delivered answerOf finishRefusal finishOf formatRefusal formatOf checkOf formRefusal formOf served eventOf tableAfter historyOf readLoginGet readSession readLoginPost readValidator readProxy readFinish readGet readPost readCall read trailOf closeAll enter raiseAll pass look note notebook tally openerOf spentLive calledOf originOf grantOf issuedBy acceptedBy issued acceptedOfAccount waitingAmong waitingIn successes
 trailIn l = trailOf (l .events)
 
 -- issued, accepted, burnt, ended, expired, waiting
 pub countsIn : Lived → List ℕ
-unfolding joined same among allDiffer allWithin holds leOf bytesOf spliced upTo past cuts digits hex blocks checkFrom houseCheck sealed checkRight deepest markMost depthLeast depthMost textLeast textMost secretFrom iouFrom sinceFrom ticketText iouText recBody encodeRec decodeRec nameOf textRight fieldsRight sinceRight serialRight expiryRight ownRight headBody encodeTable decodeTable slotFrom countKind serialTaken serialsDiffer sessionRight grantRight parentRight allRight loginCap rulesHold tableLawful formatted entryBody encodeEntry decodeEntry decodeRegister addressRight entryRight allEntriesRight servicesOf registerLawful registered callbackOf pathNamed notEmpty pieces countNamed firstNamed occurrences rawValue hexValue unitOf skipOf decodedFrom valueMost charsRight valueRight loginNames bodyNames logoutNames validatorNames proxyNames badName malformed valueOf present escapedByte escaped extended pageHead formText inResponse proxyLines isLeap yearLength monthLength yearFrom yearOf monthFrom monthOf dateOf padded dayText clockText dateText attributesText successText failureText proxySuccessText callbackText replyText replyAnswer tick endSession isNamed slotNamed ticketSlot slotFor roomFor expiryFor newRec add chainFrom chainOf formWith formStep ticketWith ticketStep signedOn loginPage unknownService loginGet admitted newSession needs issueAll accepted credentials loginTicket loginPost waitingWith waitingStep grants acceptTicket judgeTicket presented validate granted waitingSlot finished finishAt finish proxyWith proxyBy proxy linkTo logout outcomeWith answerRefusal stepOf delivered answerOf finishRefusal finishOf formatRefusal formatOf checkOf formRefusal formOf served eventOf tableAfter historyOf readLoginGet readSession readLoginPost readValidator readProxy readFinish readGet readPost readCall read trailOf closeAll enter raiseAll pass look note notebook tally openerOf spentLive calledOf originOf grantOf issuedBy acceptedBy issued acceptedOfAccount waitingAmong waitingIn successes
+unfolding joined same among allDiffer allWithin noPoint announced withTails notBelow pointAt pointsFrom points pointRight pointsRight nameRight holds leOf bytesOf spliced upTo past cuts digits hex blocks checkFrom houseCheck sealed checkRight deepest markMost depthLeast depthMost textLeast textMost secretFrom iouFrom sinceFrom ticketText iouText recBody encodeRec decodeRec nameOf textRight fieldsRight sinceRight serialRight expiryRight ownRight headBody encodeTable decodeTable slotFrom countKind serialTaken serialsDiffer sessionRight grantRight parentRight allRight loginCap rulesHold tableLawful formatted entryBody encodeEntry decodeEntry decodeRegister addressRight entryRight allEntriesRight servicesOf registerLawful registered callbackOf pathNamed notEmpty pieces countNamed firstNamed occurrences rawValue hexValue unitOf skipOf decodedFrom valueMost charsRight valueRight loginNames bodyNames logoutNames validatorNames proxyNames badName malformed valueOf present escapedByte escaped extended pageHead formText inResponse proxyLines isLeap yearLength monthLength yearFrom yearOf monthFrom monthOf dateOf padded dayText clockText dateText attributesText successText failureText proxySuccessText callbackText replyText replyAnswer tick endSession isNamed slotNamed ticketSlot slotFor roomFor expiryFor newRec add chainFrom chainOf formWith formStep ticketWith ticketStep signedOn loginPage unknownService loginGet admitted newSession needs issueAll accepted credentials loginTicket loginPost waitingWith waitingStep grants acceptTicket judgeTicket presented validate granted waitingSlot finished finishAt finish proxyWith proxyBy proxy linkTo logout outcomeWith answerRefusal stepOf delivered answerOf finishRefusal finishOf formatRefusal formatOf checkOf formRefusal formOf served eventOf tableAfter historyOf readLoginGet readSession readLoginPost readValidator readProxy readFinish readGet readPost readCall read trailOf closeAll enter raiseAll pass look note notebook tally openerOf spentLive calledOf originOf grantOf issuedBy acceptedBy issued acceptedOfAccount waitingAmong waitingIn successes
 countsIn l =
     issued (l .events)
     ∷ acceptedOfAccount (l .events)

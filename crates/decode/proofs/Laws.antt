@@ -13,7 +13,13 @@ use Rattle.protocol.specs.Request.{hexValue, hexLeads, unitOf, skipOf, decodedF
 use Rattle.protocol.specs.Written.{Wrote}
 use Rattle.protocol.proofs.Laws.{both, drop-step}
 use Rattle.text.proofs.Splice.{Left, left-byte, left-lt, left-done}
-use Rattle.decode.specs.Judging.{Hex, UnitAt, judged}
+use Rattle.protocol.specs.Utf8.{nameRight}
+use Rattle.utf8.specs.declared.Next.{Next}
+use Rattle.utf8.specs.declared.Next.the-variants.{Start}
+use Rattle.utf8.specs.Machine.{followed, isStart, judgedFrom}
+use Rattle.utf8.proofs.Laws.{judged-turn, judged-done}
+use Rattle.utf8.proofs.Join.{judged-name}
+use Rattle.decode.specs.Judging.{Hex, UnitAt, judged, judgedName}
 use Rattle.decode.specs.declared.Judged.the-variants.{Bad, Good}
 
 pub byte-none : (s : List ℕ) (i : ℕ) → length s ≤ i → 0 ≡ getD s i 0
@@ -170,6 +176,41 @@ module _ (inBody : Bool) (lo hi most : ℕ) (raw : List ℕ) (i n : ℕ)
 
     pub judge-count : length (decoded inBody raw) ≡ n + 1 + length (decoded inBody (drop next raw))
     judge-count = omega (arith, ap length (u .step))
+
+-- `judge_name`: the state, and what is left, decide
+pub name-start : (inBody : Bool) (raw : List ℕ) → judgedFrom Start (decoded inBody raw) ≡ nameRight (decoded inBody raw)
+name-start inBody raw = judged-name (decoded inBody raw)
+
+module _ (inBody : Bool) (most : ℕ) (raw : List ℕ) (i n : ℕ) (state : Next)
+    (decides : judgedFrom state (decoded inBody (drop i raw)) ≡ nameRight (decoded inBody raw))
+    (count : length (decoded inBody raw) ≡ n + length (decoded inBody (drop i raw))) where
+  module _ (h : length raw ≤ i) (z : Bool) (e : z ≡ isStart state) where
+    name-length : length (decoded inBody raw) ≡ n
+    name-length = omega (arith, ap length (decoded-end inBody raw i h))
+
+    name-state : z ≡ nameRight (decoded inBody raw)
+    name-state = judged-done state (decoded inBody (drop i raw)) (nameRight (decoded inBody raw)) decides z (decoded-end inBody raw i h) e
+
+    pub name-good : z && leb n most ≡ true → Good n ≡ judgedName inBody most raw
+    unfolding judgedName
+    name-good k = let p = both z (leb n most) k in rw (← name-state, name-length, p .0, p .1)
+
+    pub name-bad : z && leb n most ≡ false → Bad ≡ judgedName inBody most raw
+    unfolding judgedName
+    name-bad k = rw (← name-state, name-length) (go z (leb n most) k)
+      where
+        go : (a b : Bool) → a && b ≡ false → Bad ≡ if (b && a) (Good n) Bad
+        go true true q = absurd (let w : _≡_ {A = ℕ} 0 1 = cc in omega arith)
+        go true false q = refl
+        go false true q = refl
+        go false false q = refl
+
+  module _ (v next : ℕ) (u : UnitAt inBody raw i v next) where
+    pub name-turn : (after : Next) → after ≡ followed state v → judgedFrom after (decoded inBody (drop next raw)) ≡ nameRight (decoded inBody raw)
+    name-turn after e = judged-turn state (decoded inBody (drop i raw)) (nameRight (decoded inBody raw)) decides v (decoded inBody (drop next raw)) after (u .step) e
+
+    pub name-count : length (decoded inBody raw) ≡ n + 1 + length (decoded inBody (drop next raw))
+    name-count = omega (arith, ap length (u .step))
 
 -- `decode_value`: what is left to write is what is left to decode
 module _ (inBody : Bool) (raw old new : List ℕ) (to i v next : ℕ) (l : Left old 0 (decoded inBody raw) new to (decoded inBody (drop i raw)))

@@ -5,6 +5,7 @@ use mathlib.Core.List.{List, _∷_}
 use Prim.Native.Nat.{ℕ, _≤_, _<_}
 use lib.Dec.{leb}
 use lib.ListN.{length, drop}
+use Rattle.protocol.specs.Utf8.{nameRight}
 use Rattle.protocol.specs.Bytes.{if, allWithin}
 use Rattle.protocol.specs.Request.{hexValue, decoded}
 use Rattle.decode.specs.declared.Judged.{Judged}
@@ -25,3 +26,8 @@ pub record UnitAt (inBody : Bool) (s : List ℕ) (i value next : ℕ) : Type 0 w
 unfoldable pub judged : Bool → ℕ → ℕ → ℕ → List ℕ → Judged
 judged inBody lo hi most raw =
     if (leb (length (decoded inBody raw)) most && allWithin lo hi (decoded inBody raw)) (Good (length (decoded inBody raw))) Bad
+
+-- the decoded length, where it is a name of at most so many bytes
+unfoldable pub judgedName : Bool → ℕ → List ℕ → Judged
+judgedName inBody most raw =
+    if (leb (length (decoded inBody raw)) most && nameRight (decoded inBody raw)) (Good (length (decoded inBody raw))) Bad

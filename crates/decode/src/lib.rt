@@ -1,5 +1,6 @@
 // A raw value decoded: `%` and two hex digits are one byte, and in a body `+` is a space. It is judged first, with nothing
 // written; then it is written at the front of a lent buffer.
+use utf8::Next;
 ghost use mathlib.Core.Path.{_≡_};
 ghost use mathlib.Core.Bool.{true};
 ghost use Prim.Native.Nat.{_<_};
@@ -7,7 +8,7 @@ ghost use lib.ListN.{length, getD};
 ghost use Rattle.protocol.specs.Bytes.{allWithin};
 ghost use Rattle.protocol.specs.Request.{decoded};
 ghost use Rattle.protocol.specs.Written.{Room, Wrote};
-ghost use Rattle.decode.specs.Judging.{Hex, UnitAt, judged};
+ghost use Rattle.decode.specs.Judging.{Hex, UnitAt, judged, judgedName};
 
 // A value that may not stand, or the length of one that may.
 pub enum Judged {
@@ -112,6 +113,25 @@ pub fn judge(raw: &[u8], in_body: bool, lo: usize, hi: usize, most: usize) -> Ju
         n += 1;
     }
     if n <= most {
+        return Judged::Good(n);
+    }
+    Judged::Bad
+}
+
+// Whether a value, decoded, is a name of at most so many bytes. Nothing is written.
+pub fn judge_name(raw: &[u8], in_body: bool, most: usize) -> Judged
+    ensures { λ r. ⌜ r ≡ judgedName in_body most (now (raw .entry)) ⌝ }
+{
+    let mut i = 0;
+    let mut n: usize = 0;
+    let mut state = Next::Start;
+    while i < raw.len() {
+        let u = unit_at(raw, i, in_body);
+        state = utf8::follow(state, u.value);
+        i = u.next;
+        n += 1;
+    }
+    if utf8::is_start(state) & (n <= most) {
         return Judged::Good(n);
     }
     Judged::Bad

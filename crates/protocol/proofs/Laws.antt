@@ -12,7 +12,7 @@ use lib.ListN.{length, take, drop, getD, length-append, length-drop, length-repl
 use lib.Seq.{take-at, drop-at, length-take-le, drop-cons}
 use Rattle.protocol.specs.Bytes.{if, same, within, allWithin, zeros, padTo, part, num, leOf, bytesOf, joined, blocks}
 use Rattle.protocol.specs.Blocks.{sealed, houseCheck}
-use Rattle.protocol.specs.Records.{Rec, recBody, encodeRec, decodeRec, textRight, fieldsRight, sinceRight, serialRight, expiryRight, ownRight}
+use Rattle.protocol.specs.Records.{Rec, recBody, encodeRec, decodeRec, textRight, fieldsRight, sinceRight, serialRight, expiryRight, ownRight, lettersRight}
 use Rattle.protocol.specs.Tickets.{markMost, depthLeast, depthMost, textLeast, textMost, aFree, aLogin, aSession, aWaiting, secretLength}
 use Rattle.protocol.specs.Held.{Sized, Fits, AllFit}
 use Rattle.protocol.specs.Table.{Table, headBody, encodeTable, decodeTable, tableLawful, rulesHold, allRight, sessionRight, parentRight, serialsDiffer, countKind, loginCap, lastTime}
@@ -342,7 +342,7 @@ own c n r h =
     let iou = both (leb (r .kind) 6 && leb (r .mark) (markMost (r .kind)) && within (depthLeast (r .kind)) (depthMost (r .kind)) (r .depth) && allWithin 0 0 (drop (secretLength (r .kind)) (r .secret)) && textRight r) (if (eqb (r .kind) aWaiting) true (allWithin 0 0 (r .iou))) (fields .0) in
     let f = both5 (leb (r .kind) 6) (leb (r .mark) (markMost (r .kind))) (within (depthLeast (r .kind)) (depthMost (r .kind)) (r .depth)) (allWithin 0 0 (drop (secretLength (r .kind)) (r .secret))) (textRight r) (iou .0) in
     let d = both (leb (depthLeast (r .kind)) (r .depth)) (leb (r .depth) (depthMost (r .kind))) (f .2) in
-    let t = both (within (textLeast (r .kind)) (textMost (r .kind)) (length (r .text))) (allWithin 32 126 (r .text)) (f .4) in
+    let t = both (within (textLeast (r .kind)) (textMost (r .kind)) (length (r .text))) (lettersRight (r .kind) (r .text)) (f .4) in
     let w = both (leb (textLeast (r .kind)) (length (r .text))) (leb (length (r .text)) (textMost (r .kind))) (t .0) in
     record {
       kind = leb-true (r .kind) 6 (f .0);

@@ -10,7 +10,7 @@ use lib.ListN.{length, drop, getD, set, length-set, length-map, length-take, len
 use lib.Seq.{drop-at, length-take-le}
 use Rattle.protocol.specs.Bytes.{if, allWithin, zeros, padTo, part}
 use Rattle.protocol.specs.Tickets.{aFree, aLogin, aSession, aWaiting, lifetime, secretLength, secretFrom, iouFrom, markMost, depthLeast, depthMost, textLeast, textMost, sinceFrom}
-use Rattle.protocol.specs.Records.{Rec, freeRec, live, ownRight, fieldsRight, textRight, serialRight, expiryRight, sinceRight}
+use Rattle.protocol.specs.Records.{Rec, freeRec, live, ownRight, fieldsRight, textRight, serialRight, expiryRight, sinceRight, lettersRight}
 use Rattle.protocol.specs.Table.{Table, recAt, putAt, encodeTable, tableLawful, countKind, loginCap, lastTime}
 use Rattle.protocol.specs.Steps.{clearRec, endRec, tick, remove, endSession, slotFor, expiryFor, newRec, add}
 use Rattle.protocol.specs.Held.{Fits, AllFit}
@@ -216,7 +216,7 @@ since-new true c = le-leb c c (omega arith)
 since-new false c = refl
 
 pub new-own : (kind mark parent session depth : ℕ) (text random : List ℕ) (t : Table) → Kind kind random
-    → mark ≤ markMost kind → depthLeast kind ≤ depth → depth ≤ depthMost kind → textLeast kind ≤ length text → length text ≤ textMost kind → allWithin 32 126 text ≡ true
+    → mark ≤ markMost kind → depthLeast kind ≤ depth → depth ≤ depthMost kind → textLeast kind ≤ length text → length text ≤ textMost kind → lettersRight kind text ≡ true
     → (eqb session 0 ≡ false → t .clock < recAt session (t .slots) .expiry) → 1 ≤ t .next → t .next < 4294967296
     → ownRight (t .clock) ((t .next + 1) % 4294967296) (newRec kind mark parent session depth text random t) ≡ true
 unfolding ownRight fieldsRight sinceRight sinceFrom textRight newRec expiryRight expiryFor

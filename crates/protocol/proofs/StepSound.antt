@@ -7,6 +7,7 @@ use native.Mathlib.Omega.{arith}
 use borrow.Author.Tests.{eq-eqb, ne-eqb, eqb-true, eqb-false, leb-true, le-leb, ltb-true, le-ltb, not-false}
 use lib.Dec.{eqb, leb, ltb}
 use lib.ListN.{length, getD, set}
+use Rattle.protocol.specs.Utf8.{nameRight}
 use Rattle.protocol.specs.Bytes.{if, ascii, isEmpty, same, among, allWithin}
 use Rattle.protocol.specs.Tickets.{aLogin, aSession, lifetime, markMost, depthLeast, depthMost, textLeast, textMost}
 use Rattle.protocol.specs.Records.{Rec, freeRec, live, nameOf}
@@ -77,7 +78,7 @@ module _ (random : List ℕ) (h : length random ≡ 48) (t : Table) (s : Sound t
       (omega arith) (new-fits 1 0 0 0 0 [] random t (omega arith) (omega arith) (omega arith) h s) s
 
   -- a session
-  pub session-sound : (user : List ℕ) → 1 ≤ length user → length user ≤ 64 → allWithin 32 126 user ≡ true → Sound (add (newRec 2 0 0 0 0 user random t) t)
+  pub session-sound : (user : List ℕ) → 1 ≤ length user → length user ≤ 64 → nameRight user ≡ true → Sound (add (newRec 2 0 0 0 0 user random t) t)
   unfolding newRec sessionRight parentRight markMost depthLeast depthMost textLeast textMost
   session-sound user lo hi w =
       add-sound (newRec 2 0 0 0 0 user random t) t m refl
@@ -148,10 +149,10 @@ service-value v e =
     let p = both (leb (length v) 200) (allWithin 32 126 v) e in
     (leb-true (length v) 200 (p .0), p .1)
 
-pub username-value : (v : List ℕ) → valueRight (ascii "username") v ≡ true → (length v ≤ 64) × (allWithin 32 126 v ≡ true)
+pub username-value : (v : List ℕ) → valueRight (ascii "username") v ≡ true → (length v ≤ 64) × (nameRight v ≡ true)
 unfolding valueRight valueMost charsRight among same
 username-value v e =
-    let p = both (leb (length v) 64) (allWithin 32 126 v) e in
+    let p = both (leb (length v) 64) (nameRight v) e in
     (leb-true (length v) 64 (p .0), p .1)
 
 pub query-service : (q : List ℕ) → malformed false loginNames q ≡ false → (length (fromQuery "service" q) ≤ 200) × (allWithin 32 126 (fromQuery "service" q) ≡ true)
@@ -160,7 +161,7 @@ query-service q e =
     service-value (fromQuery "service" q) (good-value false q (ascii "service") (or-both (badName false q (ascii "service")) (malformed false (ascii "renew" ∷ ascii "gateway" ∷ []) q) e .0))
 
 pub body-values : (q : List ℕ) → malformed true bodyNames q ≡ false
-    → (length (fromBody "service" q) ≤ 200) × (allWithin 32 126 (fromBody "service" q) ≡ true) × (length (fromBody "username" q) ≤ 64) × (allWithin 32 126 (fromBody "username" q) ≡ true)
+    → (length (fromBody "service" q) ≤ 200) × (allWithin 32 126 (fromBody "service" q) ≡ true) × (length (fromBody "username" q) ≤ 64) × (nameRight (fromBody "username" q) ≡ true)
 unfolding malformed bodyNames valueOf
 body-values q e =
     let a = or-both (badName true q (ascii "service")) (malformed true (ascii "username" ∷ ascii "password" ∷ ascii "lt" ∷ []) q) e in
@@ -270,7 +271,7 @@ module _ (random : List ℕ) (h : length random ≡ 48) (service : List ℕ) (hi
       (λ e. s)
       (λ e. ticket-sound random h 1 k service cookie t s (m e) l (omega arith) (filled service e) hi w)
 
-  module _ (user : List ℕ) (lo : 1 ≤ length user) (most : length user ≤ 64) (v : allWithin 32 126 user ≡ true) where
+  module _ (user : List ℕ) (lo : 1 ≤ length user) (most : length user ≤ 64) (v : nameRight user ≡ true) where
     fresh-live : (t : Table) → Room t → Live 2 (add (newRec 2 0 0 0 0 user random t) t) (slotFor t)
     unfolding add newRec expiryFor
     fresh-live t m =

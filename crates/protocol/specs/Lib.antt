@@ -1,5 +1,6 @@
 -- The meaning of the product, a module for each section of document 01, and the words of the contracts.
 pub mod Bytes
+pub mod Utf8
 pub mod Blocks
 pub mod Tickets
 pub mod Records

@@ -6,6 +6,7 @@ use mathlib.Core.List.{List, [], _∷_, _++_}
 use Prim.Native.Nat.{ℕ, _+_}
 use lib.Dec.{eqb, leb, ltb}
 use lib.ListN.{length, drop, getD}
+use Rattle.protocol.specs.Utf8.{nameRight}
 use Rattle.protocol.specs.Bytes.{if, within, allWithin, zeros, padTo, part, num, bytesOf}
 use Rattle.protocol.specs.Blocks.{sealed}
 use Rattle.protocol.specs.Tickets.{aFree, aSession, aWaiting, lifetime, secretLength, markMost, depthLeast, depthMost, textLeast, textMost, ticketText}
@@ -74,9 +75,12 @@ nameOf r = ticketText (r .kind) (r .serial) (r .secret)
 abbrev pub live : ℕ → Rec → Bool
 live clock r = ltb clock (r .expiry)
 
--- bytes of a record's text: 32 to 126
+-- the bytes of a text of a kind: a session's is a name, other texts have 32 to 126
+abbrev pub lettersRight : ℕ → List ℕ → Bool
+lettersRight kind text = if (eqb kind aSession) (nameRight text) (allWithin 32 126 text)
+
 unfoldable pub textRight : Rec → Bool
-textRight r = within (textLeast (r .kind)) (textMost (r .kind)) (length (r .text)) && allWithin 32 126 (r .text)
+textRight r = within (textLeast (r .kind)) (textMost (r .kind)) (length (r .text)) && lettersRight (r .kind) (r .text)
 
 -- fields that the kind does not use are zero, the others in range
 unfoldable pub fieldsRight : Rec → Bool

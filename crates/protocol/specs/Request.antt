@@ -5,7 +5,8 @@ use Prim.Native.Nat.{ℕ, zero, suc, _+_, _-_, _*_}
 use Prim.Native.String.{String}
 use lib.Dec.{eqb, leb, ltb}
 use lib.ListN.{length, getD}
-use Rattle.protocol.specs.Bytes.{if, ascii, isEmpty, same, among, within, allWithin, upTo, past, cuts}
+use Rattle.protocol.specs.Utf8.{nameRight}
+use Rattle.protocol.specs.Bytes.{if, ascii, same, among, within, allWithin, upTo, past, cuts}
 use Rattle.protocol.specs.declared.Path.{Path}
 use Rattle.protocol.specs.declared.Path.the-variants as path
 use Rattle.protocol.specs.declared.Validator.{Validator}
@@ -103,9 +104,11 @@ valueMost name =
     if (among name (ascii "username" ∷ ascii "lt" ∷ ascii "ticket" ∷ ascii "pgt" ∷ [])) 64
     (if (same name (ascii "password")) 128 200)
 
--- decoded bytes are 32 to 126; any byte in a password
+-- decoded bytes are 32 to 126; a username is a name in UTF-8, and a password has any bytes
 unfoldable pub charsRight : List ℕ → List ℕ → Bool
-charsRight name value = if (same name (ascii "password")) (allWithin 0 255 value) (allWithin 32 126 value)
+charsRight name value =
+    if (same name (ascii "password")) (allWithin 0 255 value)
+    (if (same name (ascii "username")) (nameRight value) (allWithin 32 126 value))
 
 -- a decoded value may stand for a name
 unfoldable pub valueRight : List ℕ → List ℕ → Bool

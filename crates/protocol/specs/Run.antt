@@ -6,6 +6,7 @@ use mathlib.Core.List.{List, [], _∷_}
 use Prim.Native.Nat.{ℕ}
 use lib.ListN.{length, take, replicate}
 use Rattle.protocol.specs.Bytes.{ascii, same, among, allDiffer, allWithin, holds, leOf, bytesOf, spliced, upTo, past, cuts, digits, hex, joined, blocks}
+use Rattle.protocol.specs.Utf8.{noPoint, announced, withTails, notBelow, pointAt, pointsFrom, points, pointRight, pointsRight, nameRight}
 use Rattle.protocol.specs.Blocks.{checkFrom, houseCheck, sealed}
 use Rattle.protocol.specs.Tickets.{deepest, markMost, depthLeast, depthMost, textLeast, textMost, secretFrom, iouFrom, sinceFrom, ticketText, iouText}
 use Rattle.protocol.specs.Records.{recBody, encodeRec, decodeRec, nameOf, textRight, fieldsRight, sinceRight, serialRight, expiryRight, ownRight}
@@ -25,7 +26,7 @@ panel = record { service = ascii "https://a.lan/p"; callback = ascii "https://a.
 
 -- a call of answer on the table t: method, target, body, cookie and time; the random input is 48 sevens, the verdict yes
 unfoldable pub ask : List ℕ → Method → List ℕ → List ℕ → List ℕ → ℕ → Result
-unfolding same among allDiffer allWithin holds leOf bytesOf spliced upTo past cuts digits hex joined blocks checkFrom houseCheck sealed deepest markMost depthLeast depthMost textLeast textMost secretFrom iouFrom sinceFrom ticketText iouText recBody encodeRec decodeRec nameOf textRight fieldsRight sinceRight serialRight expiryRight ownRight headBody encodeTable decodeTable slotFrom countKind serialTaken serialsDiffer sessionRight grantRight parentRight allRight loginCap rulesHold tableLawful formatted entryBody encodeEntry decodeEntry decodeRegister addressRight entryRight allEntriesRight servicesOf registerLawful registered callbackOf pathNamed notEmpty pieces countNamed firstNamed occurrences rawValue hexValue unitOf skipOf decodedFrom valueMost charsRight valueRight loginNames bodyNames logoutNames validatorNames proxyNames badName malformed valueOf present escapedByte escaped extended pageHead formText inResponse proxyLines isLeap yearLength monthLength yearFrom yearOf monthFrom monthOf dateOf padded dayText clockText dateText attributesText successText failureText proxySuccessText callbackText replyText replyAnswer tick endSession isNamed slotNamed ticketSlot slotFor roomFor expiryFor newRec add chainFrom chainOf formWith formStep ticketWith ticketStep signedOn loginPage unknownService loginGet admitted newSession needs issueAll accepted credentials loginTicket loginPost waitingWith waitingStep grants acceptTicket judgeTicket presented validate proxyWith proxyBy proxy linkTo logout outcomeWith answerRefusal stepOf delivered answerOf formatRefusal formatOf
+unfolding same among allDiffer allWithin noPoint announced withTails notBelow pointAt pointsFrom points pointRight pointsRight nameRight holds leOf bytesOf spliced upTo past cuts digits hex joined blocks checkFrom houseCheck sealed deepest markMost depthLeast depthMost textLeast textMost secretFrom iouFrom sinceFrom ticketText iouText recBody encodeRec decodeRec nameOf textRight fieldsRight sinceRight serialRight expiryRight ownRight headBody encodeTable decodeTable slotFrom countKind serialTaken serialsDiffer sessionRight grantRight parentRight allRight loginCap rulesHold tableLawful formatted entryBody encodeEntry decodeEntry decodeRegister addressRight entryRight allEntriesRight servicesOf registerLawful registered callbackOf pathNamed notEmpty pieces countNamed firstNamed occurrences rawValue hexValue unitOf skipOf decodedFrom valueMost charsRight valueRight loginNames bodyNames logoutNames validatorNames proxyNames badName malformed valueOf present escapedByte escaped extended pageHead formText inResponse proxyLines isLeap yearLength monthLength yearFrom yearOf monthFrom monthOf dateOf padded dayText clockText dateText attributesText successText failureText proxySuccessText callbackText replyText replyAnswer tick endSession isNamed slotNamed ticketSlot slotFor roomFor expiryFor newRec add chainFrom chainOf formWith formStep ticketWith ticketStep signedOn loginPage unknownService loginGet admitted newSession needs issueAll accepted credentials loginTicket loginPost waitingWith waitingStep grants acceptTicket judgeTicket presented validate proxyWith proxyBy proxy linkTo logout outcomeWith answerRefusal stepOf delivered answerOf formatRefusal formatOf
 ask t m u b k n = answerOf (inputs t (encodeEntry panel) m u b k n (replicate 48 7) true (replicate 8192 238) (replicate 64 221))
 
 unfoldable pub said : Result → List ℕ

@@ -7,12 +7,13 @@ use native.Mathlib.Omega.{arith}
 use borrow.Author.Tests.{lt-ltb, le-ltb}
 use lib.Dec.{leb, ltb}
 use lib.ListN.{length}
+use Rattle.protocol.specs.Utf8.{nameRight}
 use Rattle.protocol.specs.Bytes.{if, ascii, same, among, allWithin}
 use Rattle.protocol.specs.Request.{rawValue, occurrences, decoded, valueMost, charsRight, valueRight, badName, malformed, loginNames, bodyNames, logoutNames, validatorNames, proxyNames, valueOf, present}
 use Rattle.protocol.specs.Written.{Room, Wrote}
 use Rattle.protocol.specs.declared.Validator.{Validator}
 use Rattle.protocol.specs.declared.Validator.the-variants as validator
-use Rattle.decode.specs.Judging.{judged}
+use Rattle.decode.specs.Judging.{judged, judgedName as judgedUser}
 use Rattle.decode.specs.declared.Judged.{Judged}
 use Rattle.decode.specs.declared.Judged.the-variants.{Bad, Good}
 use Rattle.request.specs.Requests.{judgedName, judgedCallback, callbackLength, Ready, loginQueryOf, loginBodyOf, logoutQueryOf, validatorQueryOf, proxyQueryOf}
@@ -49,22 +50,26 @@ module _ (inBody : Bool) (q name : List ℕ) (n : ℕ) (en : n ≡ occurrences n
   name-twice h = rw (← en, lt-ltb 1 n h)
 
   module _ (h : n ≤ 1) (raw : List ℕ) (er : raw ≡ rawValue name q) (most : ℕ) (em : most ≡ valueMost name) (t : Bool) (et : t ≡ same name (ascii "password")) (r : Judged) where
-    judged-as : (lo hi : ℕ) → charsRight name (decoded inBody raw) ≡ allWithin lo hi (decoded inBody raw) → r ≡ judged inBody lo hi most raw → r ≡ judgedName inBody q name
-    unfolding judgedName badName valueRight judged
-    judged-as lo hi c k =
-        k ∙ rw (← en, le-ltb 1 n h, ← er, ← em, c) (turned (leb (length (decoded inBody raw)) most && allWithin lo hi (decoded inBody raw)) (length (decoded inBody raw)))
+    judged-as : (z : Bool) → charsRight name (decoded inBody raw) ≡ z → r ≡ if (leb (length (decoded inBody raw)) most && z) (Good (length (decoded inBody raw))) Bad → r ≡ judgedName inBody q name
+    unfolding judgedName badName valueRight
+    judged-as z c k = k ∙ rw (← en, le-ltb 1 n h, ← er, ← em, c) (turned (leb (length (decoded inBody raw)) most && z) (length (decoded inBody raw)))
       where
         turned : (b : Bool) (m : ℕ) → if b (Good m) Bad ≡ if (not b) Bad (Good m)
         turned true m = refl
         turned false m = refl
 
     pub name-password : t ≡ true → r ≡ judged inBody 0 255 most raw → r ≡ judgedName inBody q name
-    unfolding charsRight
-    name-password f k = judged-as 0 255 (rw (← et, f)) k
+    unfolding charsRight judged
+    name-password f k = judged-as (allWithin 0 255 (decoded inBody raw)) (rw (← et, f)) k
 
-    pub name-other : t ≡ false → r ≡ judged inBody 32 126 most raw → r ≡ judgedName inBody q name
-    unfolding charsRight
-    name-other f k = judged-as 32 126 (rw (← et, f)) k
+    module _ (f : t ≡ false) (u : Bool) (eu : u ≡ same name (ascii "username")) where
+      pub name-username : u ≡ true → r ≡ judgedUser inBody most raw → r ≡ judgedName inBody q name
+      unfolding charsRight judgedUser
+      name-username g k = judged-as (nameRight (decoded inBody raw)) (rw (← et, f, ← eu, g)) k
+
+      pub name-other : u ≡ false → r ≡ judged inBody 32 126 most raw → r ≡ judgedName inBody q name
+      unfolding charsRight judged
+      name-other g k = judged-as (allWithin 32 126 (decoded inBody raw)) (rw (← et, f, ← eu, g)) k
 
 -- one name after the other
 or-true : (b : Bool) → b || true ≡ true

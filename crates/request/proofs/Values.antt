@@ -12,6 +12,7 @@ use borrow.Author.Tests.{leb-true, le-leb}
 use lib.Dec.{leb}
 use lib.ListN.{length, take, drop}
 use lib.Seq.{take-at}
+use Rattle.protocol.specs.Utf8.{nameRight}
 use Rattle.protocol.specs.Bytes.{if, ascii, same, among, allWithin, spliced}
 use Rattle.protocol.specs.Request.{rawValue, decoded, valueMost, charsRight, valueRight, badName, malformed, loginNames, bodyNames, logoutNames, validatorNames, proxyNames, valueOf, fromQuery, fromBody, present}
 use Rattle.protocol.specs.Written.{Wrote}
@@ -19,6 +20,7 @@ use Rattle.protocol.specs.declared.Validator.{Validator}
 use Rattle.protocol.specs.declared.Validator.the-variants as validator
 use Rattle.protocol.proofs.Laws.{both}
 use Rattle.protocol.proofs.StepSound.{or-both, good-value}
+use Rattle.utf8.proofs.Small.{name-bytes}
 use Rattle.request.specs.Requests.{Ready, callbackLength, loginQueryOf, loginBodyOf, logoutQueryOf, validatorQueryOf, proxyQueryOf}
 use Rattle.request.specs.Given.{LoginGiven, BodyGiven, LogoutGiven, ValidatorGiven, ProxyGiven}
 use Rattle.request.proofs.Laws.{callbackNames, names-are}
@@ -57,11 +59,12 @@ Fits inBody name most q = (length (decoded inBody (rawValue name q)) ≤ most) �
 
 chars-bytes : (name v : List ℕ) → charsRight name v ≡ true → allWithin 0 255 v ≡ true
 unfolding charsRight
-chars-bytes name v e = go (same name (ascii "password")) e
+chars-bytes name v e = go (same name (ascii "password")) (same name (ascii "username")) e
   where
-    go : (t : Bool) → if t (allWithin 0 255 v) (allWithin 32 126 v) ≡ true → allWithin 0 255 v ≡ true
-    go true k = k
-    go false k = bytes-are 32 126 v (omega arith) k
+    go : (t u : Bool) → if t (allWithin 0 255 v) (if u (nameRight v) (allWithin 32 126 v)) ≡ true → allWithin 0 255 v ≡ true
+    go true u k = k
+    go false true k = name-bytes v k
+    go false false k = bytes-are 32 126 v (omega arith) k
 
 fits : (inBody : Bool) (name q : List ℕ) → badName inBody q name ≡ false → Fits inBody name (valueMost name) q
 unfolding valueRight

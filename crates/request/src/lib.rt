@@ -90,6 +90,9 @@ pub fn judge_name(q: &[u8], name: &[u8], in_body: bool) -> Judged
     if text::same(name, b"password") {
         return decode::judge(raw, in_body, 0, 255, most);
     }
+    if text::same(name, b"username") {
+        return decode::judge_name(raw, in_body, most);
+    }
     decode::judge(raw, in_body, 32, 126, most)
 }
 

@@ -5,13 +5,14 @@ use mathlib.Core.List.{List, [], _∷_}
 use Prim.Native.Nat.{ℕ, zero, _+_, _-_, _<_, _≤_}
 use native.Mathlib.Omega.{arith}
 use native.Mathlib.Decide.{decLe}
-use borrow.Author.Tests.{le-leb, lt-leb, leb-true}
+use borrow.Author.Tests.{le-leb, lt-leb, leb-true, eq-eqb, ne-eqb}
 use lib.Dec.{eqb, leb, ltb, lit≤, lit<}
 use lib.ListN.{length, take, drop, getD, length-take, length-drop}
 use lib.Seq.{take-add, drop-at, drop-drop}
+use Rattle.protocol.specs.Utf8.{nameRight}
 use Rattle.protocol.specs.Bytes.{if, ascii, same, within, allWithin, zeros, padTo, part, num, bytesOf}
 use Rattle.protocol.specs.Tickets.{aWaiting, lifetime, secretLength, markMost, depthLeast, depthMost, textLeast, textMost}
-use Rattle.protocol.specs.Records.{decodeRec, recBody, fieldsRight, serialRight, expiryRight, sinceRight, ownRight, textRight as recTextRight}
+use Rattle.protocol.specs.Records.{decodeRec, recBody, fieldsRight, serialRight, expiryRight, sinceRight, ownRight, textRight as recTextRight, lettersRight}
 use Rattle.protocol.specs.Table.{headBody, lastTime}
 use Rattle.protocol.proofs.Laws.{both, length-bytes, length-pad, text-most, part-long}
 use Rattle.protocol.proofs.Sizes.{secret-most}
@@ -57,7 +58,7 @@ limits-first true true true false false tb i v life = refl
 own-limits : (c n : ℕ) (b : List ℕ) → length b ≡ 512
     → ownRight c n (decodeRec b)
     ≡ limitsRight (numbersOf (decodeRec b)) (num 40 2 b)
-    && (allWithin 0 0 (part (24 + secretLength (getD b 0 0)) (16 - secretLength (getD b 0 0)) b) && allWithin 32 126 (part 44 (num 40 2 b) b) && (if (eqb (getD b 0 0) aWaiting) true (allWithin 0 0 (part 256 16 b)))
+    && (allWithin 0 0 (part (24 + secretLength (getD b 0 0)) (16 - secretLength (getD b 0 0)) b) && lettersRight (getD b 0 0) (part 44 (num 40 2 b) b) && (if (eqb (getD b 0 0) aWaiting) true (allWithin 0 0 (part 256 16 b)))
     && sinceRight c (decodeRec b) && lifeRight c n (numbersOf (decodeRec b)))
 unfolding ownRight fieldsRight recTextRight serialRight expiryRight decodeRec limitsRight lifeRight
 own-limits c n b h =
@@ -155,9 +156,16 @@ secrets-right b kind {m} a x y z =
     let e : 40 - (24 + m) ≡ 16 - m = omega arith in
     rw (z, y, x, e, a)
 
-pub text-right : (b : List ℕ) (n : ℕ) {r z : Bool} → r ≡ allWithin 32 126 (part 44 (44 + n - 44) b) → z ≡ allWithin 0 0 (part (44 + n) (256 - (44 + n)) b) → r && z ≡ textRight n b
+module _ (kind : ℕ) (s : List ℕ) {r : Bool} where
+  pub letters-name : kind ≡ 2 → r ≡ nameRight s → r ≡ lettersRight kind s
+  letters-name e q = rw (eq-eqb kind 2 e, q)
+
+  pub letters-plain : (kind ≡ 2 → ⊥) → r ≡ allWithin 32 126 s → r ≡ lettersRight kind s
+  letters-plain e q = rw (ne-eqb kind 2 e, q)
+
+pub text-right : (b : List ℕ) (kind n : ℕ) {r z : Bool} → r ≡ lettersRight kind (part 44 (44 + n - 44) b) → z ≡ allWithin 0 0 (part (44 + n) (256 - (44 + n)) b) → r && z ≡ textRight kind n b
 unfolding textRight
-text-right b n x z =
+text-right b kind n x z =
     let e : 44 + n - 44 ≡ n = omega arith in
     let d : 256 - (44 + n) ≡ 212 - n = omega arith in
     rw (x, z, e, d)
@@ -206,7 +214,7 @@ record-wrong c n b h e l g z =
 -- within them its bytes decide
 pub record-right : (c n : ℕ) (b : List ℕ) {f : Numbers} {m : ℕ} {good s t g v l : Bool} → length b ≡ 512 → Bytes b
     → f ≡ numbersOf (decodeRec b) → m ≡ num 40 2 b → good ≡ limitsRight f m → good ≡ true
-    → s ≡ secretsRight (f .kind) b → t ≡ textRight m b → g ≡ gapsZero b → v ≡ sinceRight c (decodeRec b) → l ≡ lifeRight c n f
+    → s ≡ secretsRight (f .kind) b → t ≡ textRight (f .kind) m b → g ≡ gapsZero b → v ≡ sinceRight c (decodeRec b) → l ≡ lifeRight c n f
     → s && t && g && v && l ≡ ownRight c n (decodeRec b) && same (take 508 b) (recBody (decodeRec b))
 unfolding secretsRight textRight gapsZero decodeRec
 record-right c n b h y e l g z a p q u r =
@@ -215,7 +223,7 @@ record-right c n b h y e l g z a p q u r =
     let w : limitsRight (numbersOf (decodeRec b)) (num 40 2 b) ≡ true = rw (e, l) at (sym g ∙ z) in
     let short : num 40 2 b ≤ 200 = limits-short (numbersOf (decodeRec b)) (num 40 2 b) (sym w) refl in
     rw (a, p, q, u, r, e, l, own-limits c n b h, w, body-own b h (y .each) short)
-    (in-order (allWithin 0 0 (part (24 + secretLength k) (16 - secretLength k) b)) (if (eqb k aWaiting) true (allWithin 0 0 (part 256 16 b))) (allWithin 32 126 (part 44 m b)) (allWithin 0 0 (part (44 + m) (212 - m) b))
+    (in-order (allWithin 0 0 (part (24 + secretLength k) (16 - secretLength k) b)) (if (eqb k aWaiting) true (allWithin 0 0 (part 256 16 b))) (lettersRight k (part 44 m b)) (allWithin 0 0 (part (44 + m) (212 - m) b))
     (allWithin 0 0 (part 7 1 b)) (allWithin 0 0 (part 12 4 b)) (allWithin 0 0 (part 42 2 b)) (allWithin 0 0 (part 280 228 b)) (sinceRight c (decodeRec b)) (lifeRight c n (numbersOf (decodeRec b))))
 
 -- tests one by one, or each with all that follow

@@ -5,7 +5,7 @@ use Prim.Native.Nat.{ℕ, _+_, _-_}
 use lib.Dec.{eqb, leb, ltb}
 use Rattle.protocol.specs.Bytes.{if, within, allWithin, part}
 use Rattle.protocol.specs.Tickets.{aFree, aWaiting, lifetime, secretLength, markMost, depthLeast, depthMost, textLeast, textMost}
-use Rattle.protocol.specs.Records.{Rec, serialRight}
+use Rattle.protocol.specs.Records.{Rec, serialRight, lettersRight}
 use Rattle.rules.specs.declared.Numbers.{Numbers}
 
 abbrev pub numbersOf : Rec → Numbers
@@ -33,8 +33,8 @@ secretsRight kind b =
     && (if (eqb kind aWaiting) true (allWithin 0 0 (part 256 16 b)))
 
 -- the text's bytes, and those behind it
-unfoldable pub textRight : ℕ → List ℕ → Bool
-textRight n b = allWithin 32 126 (part 44 n b) && allWithin 0 0 (part (44 + n) (212 - n) b)
+unfoldable pub textRight : ℕ → ℕ → List ℕ → Bool
+textRight kind n b = lettersRight kind (part 44 n b) && allWithin 0 0 (part (44 + n) (212 - n) b)
 
 -- the bytes that have no name
 unfoldable pub gapsZero : List ℕ → Bool

@@ -7,7 +7,7 @@ ghost use lib.ListN.{length, take};
 ghost use lib.Dec.{leb};
 ghost use Rattle.protocol.specs.Bytes.{if, same, num};
 ghost use Rattle.protocol.specs.Tickets.{markMost, depthLeast, depthMost, textLeast, textMost};
-ghost use Rattle.protocol.specs.Records.{decodeRec, recBody, serialRight, sinceRight, ownRight};
+ghost use Rattle.protocol.specs.Records.{decodeRec, recBody, serialRight, sinceRight, ownRight, lettersRight};
 ghost use Rattle.protocol.specs.Table.{headBody, lastTime};
 ghost use Rattle.rules.specs.Tests.{numbersOf, limitsRight, lifeRight, secretsRight, textRight, gapsZero};
 
@@ -139,13 +139,23 @@ fn secrets_right(block: &[u8], kind: u8) -> bool
     rest & pick(kind == 5, true, block::all_within(&block[256..272], 0, 0))
 }
 
-// The text's bytes are 32 to 126, those behind it zero.
-fn text_right(block: &[u8], n: usize) -> bool
+// A session's text is a name; other texts have bytes 32 to 126.
+fn letters_right(kind: u8, text: &[u8]) -> bool
+    ensures { λ r. ⌜ r ≡ lettersRight kind (now (text .entry)) ⌝ }
+{
+    if kind == 2 {
+        return utf8::is_name(text);
+    }
+    block::all_within(text, 32, 126)
+}
+
+// The text's bytes are as its kind has them, those behind it zero.
+fn text_right(block: &[u8], kind: u8, n: usize) -> bool
     requires { ⌜ (length (now block) ≡ 512) × (n ≤ 200) ⌝ }
-    ensures { λ r. ⌜ r ≡ textRight n (now (block .entry)) ⌝ }
+    ensures { λ r. ⌜ r ≡ textRight kind n (now (block .entry)) ⌝ }
 {
     let to = 44 + n;
-    block::all_within(&block[44..to], 32, 126) & block::all_within(&block[to..256], 0, 0)
+    letters_right(kind, &block[44..to]) & block::all_within(&block[to..256], 0, 0)
 }
 
 // The bytes that have no name are zero.
@@ -169,7 +179,7 @@ pub fn record_right(block: &[u8], clock: u64, next: u32) -> bool
     let good = limits_right(f, n);
     if good {
         return secrets_right(block, f.kind)
-            & text_right(block, n as usize)
+            & text_right(block, f.kind, n as usize)
             & gaps_zero(block)
             & since_right(block, clock)
             & life_right(f, clock, next);

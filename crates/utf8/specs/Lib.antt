@@ -1,0 +1,2 @@
+-- The states of the judgement of a name, which the contracts cite.
+pub mod Machine
