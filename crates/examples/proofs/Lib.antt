@@ -1,2 +1,2 @@
--- Room for what an example writes.
+-- Lengths of parts of a line.
 pub mod Laws

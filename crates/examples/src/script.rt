@@ -54,8 +54,8 @@ fn step(line: &[u8], table: [u8; 4608], register: &[u8]) -> [u8; 4608] {
     match letter {
         b'n' => format(line, table),
         b'c' => check(table),
-        b'g' => get(line, true, table, register),
-        b'p' => post(line, true, table, register),
+        b'g' => get(line, table, register),
+        b'p' => post(line, table, register),
         b'f' => finish(line, table),
         b'r' => read(line, table),
         _ => table,
@@ -82,7 +82,7 @@ fn check(table: [u8; 4608]) -> [u8; 4608] {
     table
 }
 
-// The table after a request, whose outcome is written where it is shown.
+// The table after a request.
 fn ask(
     method: Method,
     target: &[u8],
@@ -90,7 +90,6 @@ fn ask(
     cookie: &[u8],
     time: u64,
     verdict: bool,
-    shown: bool,
     table: [u8; 4608],
     register: &[u8],
 ) -> [u8; 4608] {
@@ -110,11 +109,11 @@ fn ask(
         &mut out,
         &mut cookie_out,
     );
-    show_outcome(shown, o, &out, &cookie_out);
+    show_outcome(o, &out, &cookie_out);
     after
 }
 
-pub fn get(line: &[u8], shown: bool, table: [u8; 4608], register: &[u8]) -> [u8; 4608] {
+fn get(line: &[u8], table: [u8; 4608], register: &[u8]) -> [u8; 4608] {
     let target = word(line, 2);
     let cookie = word(line, 3);
     let no_body = front(line, 0);
@@ -125,13 +124,12 @@ pub fn get(line: &[u8], shown: bool, table: [u8; 4608], register: &[u8]) -> [u8;
         cookie,
         time_of(line),
         false,
-        shown,
         table,
         register,
     )
 }
 
-pub fn post(line: &[u8], shown: bool, table: [u8; 4608], register: &[u8]) -> [u8; 4608] {
+fn post(line: &[u8], table: [u8; 4608], register: &[u8]) -> [u8; 4608] {
     let target = word(line, 3);
     let body = word(line, 4);
     let cookie = word(line, 5);
@@ -142,7 +140,6 @@ pub fn post(line: &[u8], shown: bool, table: [u8; 4608], register: &[u8]) -> [u8
         cookie,
         time_of(line),
         is_yes(line),
-        shown,
         table,
         register,
     )
@@ -160,7 +157,7 @@ fn finish(line: &[u8], table: [u8; 4608]) -> [u8; 4608] {
         &mut out,
     );
     let no_cookie = front(line, 0);
-    show_outcome(true, o, &out, no_cookie);
+    show_outcome(o, &out, no_cookie);
     after
 }
 

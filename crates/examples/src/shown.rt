@@ -65,10 +65,7 @@ pub fn show_refusal(n: u32) {
     newline();
 }
 
-pub fn show_outcome(shown: bool, o: Outcome, out: &[u8], cookie: &[u8]) {
-    if !shown {
-        return;
-    }
+pub fn show_outcome(o: Outcome, out: &[u8], cookie: &[u8]) {
     if o.refusal != 0 {
         return show_refusal(o.refusal);
     }
