@@ -21,8 +21,8 @@ use Rattle.protocol.specs.declared.Path.{Path}
 use Rattle.protocol.specs.declared.Path.the-variants as path
 use Rattle.protocol.specs.declared.Validator.{Validator}
 use Rattle.protocol.specs.declared.Validator.the-variants as validator
-use Rattle.protocol.proofs.Laws.{both}
-use Rattle.protocol.proofs.Sound.{Sound, fit-slot, part-full}
+use Rattle.protocol.proofs.Laws.{both, part-long}
+use Rattle.protocol.proofs.Sound.{Sound, fit-slot}
 use Rattle.protocol.proofs.StepSound.{query-service, body-values, or-both, good-value, nonzero}
 use Rattle.protocol.proofs.TicketSound.{GoodUrl, url-good, owned, ticket-live, spent-sound}
 use Rattle.protocol.proofs.Sizes.{Small, error, in-page, out-page, form, away, word, success, failure, ticket, refusal, call, AllShort, name-most, iou-most}
@@ -237,7 +237,7 @@ module _ (p : Validator) (q : List ℕ) (g : Brought) (h : length (g .random) �
   unfolding waitingStep waitingWith newRec iouFrom
   waiting-fits t r s u =
       let w : Rec = newRec aWaiting (r .mark) (proxyParent r) (r .session) (recAt (proxyParent r) (t .slots) .depth + 1) url (g .random) t in
-      plain (add w t) (CallbackTo (w .text) (nameOf w) (iouText (w .iou)) (w .serial)) (call (w .text) (nameOf w) (iouText (w .iou)) (w .serial) u (name-most w) (iou-most (w .iou) (omega (arith, part-full 16 16 (g .random) (omega arith)))))
+      plain (add w t) (CallbackTo (w .text) (nameOf w) (iouText (w .iou)) (w .serial)) (call (w .text) (nameOf w) (iouText (w .iou)) (w .serial) u (name-most w) (iou-most (w .iou) (omega (arith, part-long 16 16 (g .random) (omega arith)))))
 
   accept-fits : (t : Table) (r : Rec) → Sound t → Fitting (acceptTicket p r url g t)
   unfolding acceptTicket

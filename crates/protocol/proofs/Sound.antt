@@ -6,15 +6,15 @@ use Prim.Native.Nat.{ℕ, zero, suc, _+_, _-_, _%_, _≤_, _<_, min, max}
 use native.Mathlib.Omega.{arith}
 use borrow.Author.Tests.{eqb-false, le-leb, lt-ltb}
 use lib.Dec.{eqb, leb, ltb}
-use lib.ListN.{length, drop, getD, set, length-set, length-map, length-take, length-drop}
-use lib.Seq.{drop-at, length-take-le}
+use lib.ListN.{length, drop, getD, set, length-set, length-map, length-take}
+use lib.Seq.{drop-at}
 use Rattle.protocol.specs.Bytes.{if, allWithin, zeros, padTo, part}
 use Rattle.protocol.specs.Tickets.{aFree, aLogin, aSession, aWaiting, lifetime, secretLength, secretFrom, iouFrom, markMost, depthLeast, depthMost, textLeast, textMost, sinceFrom}
 use Rattle.protocol.specs.Records.{Rec, freeRec, live, ownRight, fieldsRight, textRight, serialRight, expiryRight, sinceRight, lettersRight}
 use Rattle.protocol.specs.Table.{Table, recAt, putAt, encodeTable, tableLawful, countKind, loginCap, lastTime}
 use Rattle.protocol.specs.Steps.{clearRec, endRec, tick, remove, endSession, slotFor, expiryFor, newRec, add}
 use Rattle.protocol.specs.Held.{Fits, AllFit}
-use Rattle.protocol.proofs.Laws.{length-pad, recRight, Rules, rules, rules-hold, lawful-written}
+use Rattle.protocol.proofs.Laws.{length-pad, recRight, Rules, rules, rules-hold, lawful-written, part-long}
 use Rattle.protocol.proofs.Kept.{Unnamed, tick-rules, remove-rules, end-rules}
 use Rattle.protocol.proofs.Added.{Room, add-rules}
 
@@ -129,15 +129,12 @@ expiry-most false a b = omega arith
 part-most : (at n : ℕ) (s : List ℕ) → length (part at n s) ≤ n
 part-most at n s = rw (length-take n (drop at s)) (omega arith)
 
-pub part-full : (at n : ℕ) (s : List ℕ) → at + n ≤ length s → length (part at n s) ≡ n
-part-full at n s h = length-take-le n (drop at s) (omega (arith, length-drop at s))
-
-secret-most : (z : Bool) (s : List ℕ) → length (if z (part 32 9 s) (part 0 16 s)) ≤ 16
-secret-most true s = omega (arith, part-most 32 9 s)
-secret-most false s = part-most 0 16 s
+drawn-most : (z : Bool) (s : List ℕ) → length (if z (part 32 9 s) (part 0 16 s)) ≤ 16
+drawn-most true s = omega (arith, part-most 32 9 s)
+drawn-most false s = part-most 0 16 s
 
 iou-full : (z : Bool) (s : List ℕ) → length s ≡ 48 → length (if z (part 16 16 s) (zeros 16)) ≡ 16
-iou-full true s h = part-full 16 16 s (omega arith)
+iou-full true s h = part-long 16 16 s (omega arith)
 iou-full false s h = refl
 
 since-low : (z : Bool) (c : ℕ) → if z c 0 ≤ c
@@ -154,7 +151,7 @@ new-fits kind mark parent session depth text random t hp hs ht hr s =
       serial = s .next;
       expiry = omega (arith, expiry-most (eqb session 0) (t .clock + lifetime kind) (recAt session (t .slots) .expiry), lifetime-most kind, s .rules .clock);
       since = omega (arith, since-low (eqb kind aSession) (t .clock), s .rules .clock);
-      sized = record { secret = length-pad 16 (secretFrom kind random) (secret-most (eqb (secretLength kind) 9) random); text = ht; iou = iou-full (eqb kind aWaiting) random hr };
+      sized = record { secret = length-pad 16 (secretFrom kind random) (drawn-most (eqb (secretLength kind) 9) random); text = ht; iou = iou-full (eqb kind aWaiting) random hr };
     }
 
 -- the rest of a short secret is zero
@@ -163,11 +160,11 @@ tail-zero p n h m z e = let q : 16 - length p ≡ m = omega arith in rw q (rw (d
 
 short-tail : (random : List ℕ) → length random ≡ 48 → allWithin 0 0 (drop 9 (padTo 16 (part 32 9 random))) ≡ true
 unfolding allWithin
-short-tail random h = tail-zero (part 32 9 random) 9 (part-full 32 9 random (omega arith)) 7 refl refl
+short-tail random h = tail-zero (part 32 9 random) 9 (part-long 32 9 random (omega arith)) 7 refl refl
 
 long-tail : (random : List ℕ) → length random ≡ 48 → allWithin 0 0 (drop 16 (padTo 16 (part 0 16 random))) ≡ true
 unfolding allWithin
-long-tail random h = tail-zero (part 0 16 random) 16 (part-full 0 16 random (omega arith)) 0 refl refl
+long-tail random h = tail-zero (part 0 16 random) 16 (part-long 0 16 random (omega arith)) 0 refl refl
 
 -- what a kind asks of the secret and IOU of a new record
 pub record Kind (kind : ℕ) (random : List ℕ) : Type 0 where
