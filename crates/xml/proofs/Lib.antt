@@ -1,3 +1,2 @@
--- Laws of the texts that templates give, and of a success written in parts.
+-- Laws of the texts that templates give, and of a success in parts.
 pub mod Texts
-pub mod Walk
