@@ -23,17 +23,18 @@ struct pass {
 };
 
 /* A panel that asked whether a pass is good, and what it was told: a user and the panels between, or the reason against it. */
-struct visit {
+struct showing {
     uint64_t time, serial; /* the serial of a callback, 0 for none */
     char service[TEXT], user[TEXT], through[TEXT], reason[TEXT], grant[TEXT];
     const struct pass *pass;
     bool renew, let_in;
+    bool page; /* the panel keeps a page open by this pass; a proxy pass opens none, for no browser shows it */
 };
 
 static struct session sessions[NIGHT];
 static struct pass passes[NIGHT];
-static struct visit visits[NIGHT];
-static int n_sessions, n_passes, n_visits, accepted, shown_old;
+static struct showing showings[NIGHT];
+static int n_sessions, n_passes, n_showings, accepted, shown_old;
 
 static void trouble(const char *what)
 {
@@ -86,37 +87,38 @@ static void issue(const char *text, const char *service, const struct session *s
 }
 
 /* A success answer is told once, and the user that it names must be the one of the sign-on. */
-static void hear_success(struct visit *v)
+static void hear_success(struct showing *s)
 {
-    if (*v->user)
+    if (*s->user)
         trouble("a second success answer");
-    snprintf(v->user, TEXT, "%s", between(said, "<cas:user>", "<"));
-    snprintf(v->through, TEXT, "%s", between(said, "<cas:proxy>", "<"));
-    if (strcmp(v->user, v->pass->session->user))
+    snprintf(s->user, TEXT, "%s", between(said, "<cas:user>", "<"));
+    snprintf(s->through, TEXT, "%s", between(said, "<cas:proxy>", "<"));
+    if (strcmp(s->user, s->pass->session->user))
         trouble("an answer names another user than the one who signed on");
 }
 
 static void hear_validation(const char *target)
 {
-    struct visit *v = &visits[next(&n_visits)];
+    struct showing *s = &showings[next(&n_showings)];
     struct pass *p = *between(target, "service=", "&") ? pass_of(between(target, "ticket=", "&")) : 0;
     shown_old += p && p->fate != WAITING;
-    v->time = now;
-    v->pass = p;
-    v->renew = strstr(target, "renew") != 0;
-    v->let_in = outcome[PYHTIRSO_KIND] == CALLBACK || strstr(said, "<cas:authenticationSuccess>") != 0;
-    snprintf(v->service, TEXT, "%s", between(target, "service=", "&"));
-    snprintf(v->reason, TEXT, "%s", between(said, "code=\"", "\""));
-    if (v->let_in) {
+    s->time = now;
+    s->pass = p;
+    s->renew = strstr(target, "renew") != 0;
+    s->let_in = outcome[PYHTIRSO_KIND] == CALLBACK || strstr(said, "<cas:authenticationSuccess>") != 0;
+    snprintf(s->service, TEXT, "%s", between(target, "service=", "&"));
+    snprintf(s->reason, TEXT, "%s", between(said, "code=\"", "\""));
+    if (s->let_in) {
         accepted++;
-        if (!p || p->fate != WAITING || strcmp(p->service, v->service) || (v->renew && !p->signed_on))
+        if (!p || p->fate != WAITING || strcmp(p->service, s->service) || (s->renew && !p->signed_on))
             trouble("a pass was accepted that should not be");
         p->fate = ACCEPTED;
+        s->page = !strncmp(p->text, "ST-", 3);
         if (outcome[PYHTIRSO_KIND] == CALLBACK) {
-            v->serial = outcome[PYHTIRSO_CALLBACK_SERIAL];
-            snprintf(v->grant, TEXT, "%s", between(said, "pgtId=", "&"));
+            s->serial = outcome[PYHTIRSO_CALLBACK_SERIAL];
+            snprintf(s->grant, TEXT, "%s", between(said, "pgtId=", "&"));
         } else
-            hear_success(v);
+            hear_success(s);
     } else if (p && p->fate == WAITING)
         p->fate = BURNT;
 }
@@ -125,11 +127,11 @@ static void hear_proxy(const char *target)
 {
     const char *pgt = between(target, "pgt=", "&");
     int i = 0;
-    while (i < n_visits && strcmp(visits[i].grant, pgt))
+    while (i < n_showings && strcmp(showings[i].grant, pgt))
         i++;
-    if (i == n_visits)
+    if (i == n_showings)
         trouble("a proxy pass by a grant that was not given");
-    issue(between(said, "<cas:proxyTicket>", "<"), between(target, "targetService=", "&"), visits[i].pass->session, false);
+    issue(between(said, "<cas:proxyTicket>", "<"), between(target, "targetService=", "&"), showings[i].pass->session, false);
 }
 
 /* After a call of answer: the cookie before and after it, the target, and for a sign-on the username where the password was good. */
@@ -163,11 +165,11 @@ static void clerk_hears_finish(uint64_t serial)
     close_waiting(EXPIRED, 0);
     if (!strstr(said, "<cas:authenticationSuccess>"))
         return;
-    while (i < n_visits && visits[i].serial != serial)
+    while (i < n_showings && showings[i].serial != serial)
         i++;
-    if (i == n_visits)
+    if (i == n_showings)
         trouble("a success for a callback that was not asked");
-    hear_success(&visits[i]);
+    hear_success(&showings[i]);
 }
 
 static int fated(enum fate fate)

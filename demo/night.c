@@ -20,6 +20,8 @@ static const char *clock_text(uint64_t time)
     return text;
 }
 
+static const char *panel_name(const char *service) { return strcmp(service, LAMP) ? "gate" : "lamp"; }
+
 /* A text with the secrets of its tickets cut short. */
 static const char *cut(const char *text)
 {
@@ -58,8 +60,9 @@ static const char *refusal_words(uint64_t number)
                                    "the request is too long",
                                    "the time is too late",
                                    "the form is malformed",
-                                   "username or password is missing" };
-    return number < 9 ? words[number] : "a number that is not in the list";
+                                   "username or password is missing",
+                                   "there is no visit of this number" };
+    return number < 10 ? words[number] : "a number that is not in the list";
 }
 
 static void tell_answer(const char *jar)
@@ -101,19 +104,90 @@ static void means(bool holds, const char *words)
 
 /* Calls */
 
+/* What the panels are to be told of a sign-off: the two lines of each visit. */
+static char letters[NIGHT][OUT + 1];
+static int n_letters;
+
+enum { NO_VISIT = 9 }; /* the refusal that ends the asking */
+
+/* The visits of a cookie's session, asked for one at a time until there is none. The asking changes no byte of the table. */
+static void ask_visits(const char *jar)
+{
+    static uint8_t before[sizeof table];
+    uint64_t refusal;
+    memcpy(before, table, sizeof table);
+    n_letters = 0;
+    while (!(refusal = ask_visit(jar, (uint32_t)n_letters)))
+        memcpy(letters[next(&n_letters)], said, sizeof said);
+    if (refusal != NO_VISIT || memcmp(before, table, sizeof table))
+        trouble("the visits cannot be asked for, or the asking changed the table");
+}
+
+/* A call of answer by the desk, which asks for the visits before one that may end the session. */
+static void desk_call(char *jar, bool post, const char *target, const char *body, const char *user)
+{
+    char before[JAR];
+    memcpy(before, jar, JAR);
+    n_letters = 0;
+    if (post || !strncmp(target, "/cas/logout", 11))
+        ask_visits(jar);
+    call(jar, post, target, body, *user != 0);
+    clerk_hears(before, jar, target, user);
+}
+
+/* The panel at a letter's address finds its page by the pass that opened it, and closes it. */
+static void post_letter(const char *letter)
+{
+    const char *service = between(letter, "", "\n"), *index = between(letter, "<samlp:SessionIndex>", "<"), *id = between(letter, " ID=\"", "\"");
+    int i = 0;
+    while (i < n_showings && !(showings[i].page && !strcmp(showings[i].service, service) && !strcmp(showings[i].pass->text, index)))
+        i++;
+    if (i == n_showings || *id != '_' || strlen(id) != 33 || strspn(id + 1, "0123456789abcdef") != 32)
+        trouble("a panel is told of a page that it has not open, or in the wrong words");
+    showings[i].page = false;
+    printf("          desk:      POST %s, logoutRequest with SessionIndex %s\n", service, cut(index));
+    printf("          %s:      closes the page that this pass opened at %s\n", panel_name(service), clock_text(showings[i].time));
+}
+
+/* After the call: the panels are told only where it ended the session. */
+static void tell_visits(void)
+{
+    bool ended = outcome[PYHTIRSO_COOKIE_CLEARED] || outcome[PYHTIRSO_COOKIE_LENGTH];
+    if (n_letters)
+        printf("          desk:      had asked before the call for the visits of the session: %d. %s\n", n_letters,
+               ended ? "It tells each panel:" : "The session is kept, so no panel is told.");
+    for (int i = 0; ended && i < n_letters; i++)
+        post_letter(letters[i]);
+}
+
+/* The desk asks, with no call that follows. */
+static void count_visits(const char *who, const char *jar)
+{
+    ask_visits(jar);
+    printf("%s  the desk asks for the visits of %s session:\n", clock_text(now), who);
+    printf("          server:    %d, then number %d: %s\n", n_letters, NO_VISIT, refusal_words(NO_VISIT));
+}
+
+static int pages_of(const char *user)
+{
+    int n = 0;
+    for (int i = 0; i < n_showings; i++)
+        n += showings[i].page && !strcmp(showings[i].user, user);
+    return n;
+}
+
 /* A GET of a browser or a panel. */
 static void ask(const char *who, char *jar, const char *format, ...)
 {
-    char target[1024], before[JAR];
+    char target[1024];
     va_list parts;
     va_start(parts, format);
     vsnprintf(target, sizeof target, format, parts);
     va_end(parts);
-    memcpy(before, jar, JAR);
-    call(jar, false, target, "", false);
-    clerk_hears(before, jar, target, "");
+    desk_call(jar, false, target, "", "");
     printf("%s  %s asks:\n                     GET %s\n", clock_text(now), who, cut(target));
     tell_answer(jar);
+    tell_visits();
 }
 
 /* The desk's own password list. Username and password are read by the proved form reader. */
@@ -135,17 +209,16 @@ static bool password_good(const char *body, char *user)
 /* A sign-on: the form is sent back with a username, a password and the login ticket that it showed. */
 static void sign_on(const char *who, char *jar, const char *lt, const char *username, const char *password, const char *service)
 {
-    char body[1024], before[JAR], user[TEXT];
+    char body[1024], user[TEXT];
     bool good;
     snprintf(body, sizeof body, "username=%s&password=%s&lt=%s&service=%s", username, password, lt, service);
-    memcpy(before, jar, JAR);
     good = password_good(body, user);
-    call(jar, true, "/cas/login", body, good);
-    clerk_hears(before, jar, "/cas/login", good ? user : "");
+    desk_call(jar, true, "/cas/login", body, good ? user : "");
     printf("%s  %s sends the form:\n                     POST /cas/login, username=%s, a password, lt=%s, service=%s\n", clock_text(now), who, user,
            cut(lt), service);
     printf("          desk:      the password of %s is %s\n", user, good ? "right" : "WRONG");
     tell_answer(jar);
+    tell_visits();
 }
 
 static void tell_callback(uint64_t serial)
@@ -318,16 +391,38 @@ static void a_byte_goes_bad(void)
           "The desk puts the stored block back. The refused call spent nothing: Ann's pass still opens the gate.");
 }
 
+static void bo_comes_early(void)
+{
+    char pass[TEXT];
+    scene("Bo, the foreman, comes early", 5, 36);
+    ask("Bo's browser", bo, "/cas/login?service=" GATE);
+    means(says(PAGE, 200, "<form"), "He gets the form.");
+    sign_on("Bo's browser", bo, login_ticket(), "bo", "lantern", GATE);
+    means(says(REDIRECT, 303, GATE "?ticket=ST-"), "He is signed in, and carries a pass to the gate panel.");
+    take_pass(pass);
+    ask("The gate panel", panel_itself, "/cas/serviceValidate?service=" GATE "&ticket=%s", pass);
+    means(says(XML, 200, "<cas:user>bo</cas:user>"), "The gate opens, and keeps a page open for him.");
+    ask("Bo's browser", bo, "/cas/login?service=" LAMP);
+    means(says(REDIRECT, 303, LAMP "?ticket=ST-"), "He also has a pass to the lamps, and has not yet shown it when the night is closed.");
+}
+
 static void ann_signs_off(void)
 {
     char pass[TEXT];
-    scene("Ann signs off", 3, 0);
+    int pages;
+    scene("Ann signs off, and the panels hear of it", 5, 38);
     ask("Ann's browser", ann, "/cas/login?service=" LAMP);
     means(says(REDIRECT, 303, LAMP "?ticket=ST-"), "She takes one more pass, and does not use it.");
     take_pass(pass);
     memcpy(anns_cookie, ann, JAR);
+    pages = pages_of("ann");
     ask("Ann's browser", ann, "/cas/logout?url=" LAMP);
-    means(says(PAGE, 200, "<p>Signed out</p>") && !*ann, "She is signed off.");
+    means(says(PAGE, 200, "<p>Signed out</p>") && !*ann && n_letters == pages && !pages_of("ann"),
+          "She is signed off, and no gate or lamp page of hers is left open. Of the pass that she did not use no panel was told.");
+    count_visits("Bo's", bo);
+    means(n_letters == 1 && pages_of("bo") == 1, "Bo's page stays open: a sign-off is told of one session only.");
+    count_visits("Ann's", anns_cookie);
+    means(!n_letters, "Of her session there is nothing more to tell.");
     ask("The lamp panel", panel_itself, "/cas/serviceValidate?service=" LAMP "&ticket=%s", pass);
     means(says(XML, 200, FAILURE("INVALID_TICKET")), "The pass that she did not use ended with her session.");
     ask("The gate panel", panel_itself, "/cas/proxy?pgt=%s&targetService=" LAMP, grant);
@@ -336,28 +431,15 @@ static void ann_signs_off(void)
     means(says(PAGE, 200, "<form"), "And her cookie is worth nothing now.");
 }
 
-static void bo_comes_early(void)
-{
-    char pass[TEXT];
-    scene("Bo, the foreman, comes early", 5, 30);
-    ask("Bo's browser", bo, "/cas/login?service=" GATE);
-    means(says(PAGE, 200, "<form"), "He gets the form.");
-    sign_on("Bo's browser", bo, login_ticket(), "bo", "lantern", GATE);
-    means(says(REDIRECT, 303, GATE "?ticket=ST-"), "He is signed in, and has not yet shown his pass when the night is closed.");
-    take_pass(pass);
-}
-
 /* The end of the night */
-
-static const char *panel_name(const char *service) { return strcmp(service, LAMP) ? "gate" : "lamp"; }
 
 static void tell_log(void)
 {
     printf("\n==== The log of the panels: each pass that was shown, and what the panel was told\n\n");
-    for (int i = 0; i < n_visits; i++) {
-        const struct visit *v = &visits[i];
-        printf("%s  %s  %-14s %-22s %s%s%s\n", clock_text(v->time), panel_name(v->service), v->pass ? cut(v->pass->text) : "no pass",
-               v->renew ? "for an alarm (renew)" : "", v->let_in ? v->user : v->reason, *v->through ? " through " : "", v->through);
+    for (int i = 0; i < n_showings; i++) {
+        const struct showing *s = &showings[i];
+        printf("%s  %s  %-14s %-22s %s%s%s\n", clock_text(s->time), panel_name(s->service), s->pass ? cut(s->pass->text) : "no pass",
+               s->renew ? "for an alarm (renew)" : "", s->let_in ? s->user : s->reason, *s->through ? " through " : "", s->through);
     }
 }
 
@@ -375,12 +457,12 @@ static void tell_answers(void)
     int named = 0;
     printf("\n==== The insurer's three questions\n\n"
            "1. Who may put out an alarm lamp? Only who gives a password for it: the lamp panel asks with renew.\n");
-    for (int i = 0; i < n_visits; i++) {
-        const struct visit *v = &visits[i];
-        named += *v->user != 0;
-        if (!strcmp(v->service, LAMP) && v->renew)
-            printf("   Tonight at %s: %s, who showed %s, %s.\n", clock_text(v->time), v->let_in ? v->user : "somebody", what_was_shown(v->pass),
-                   v->let_in ? "put it out" : "was turned away");
+    for (int i = 0; i < n_showings; i++) {
+        const struct showing *s = &showings[i];
+        named += *s->user != 0;
+        if (!strcmp(s->service, LAMP) && s->renew)
+            printf("   Tonight at %s: %s, who showed %s, %s.\n", clock_text(s->time), s->let_in ? s->user : "somebody", what_was_shown(s->pass),
+                   s->let_in ? "put it out" : "was turned away");
     }
     printf("   Every night: theorem `account`, part `honest`: an accepted pass was issued to that very panel and, under renew, by a call that\n"
            "   was itself a sign-on with the desk's yes to its password. A proxy pass never is.\n\n");
@@ -443,8 +525,8 @@ int main(void)
     gate_lights_the_way();
     ann_dozes_off();
     a_byte_goes_bad();
-    ann_signs_off();
     bo_comes_early();
+    ann_signs_off();
     tell_log();
     tell_answers();
     tell_account();

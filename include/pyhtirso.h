@@ -1,4 +1,4 @@
-/* Pyhtirso's five calls, for a host in C. Link with libexport.a (`rt staticlib export` writes it).
+/* Pyhtirso's six calls, for a host in C. Link with libexport.a (`rt staticlib export` writes it).
  *
  * Every slice is a pointer and a length in bytes; a length of 0 is fine, a null pointer is not. The calls judge all that they are given and
  * touch nothing but what is lent to them. They keep nothing: a host may use several tables, each from one thread at a time.
@@ -7,11 +7,13 @@
  *   1  table length not a multiple of 512, or not 9 to 128 blocks
  *   2  a table block's check is wrong, or a table rule is broken
  *   3  register not 1 to 16 whole blocks, or a block check or register rule is broken
- *   4  output under 8,192 bytes, cookie output under 64, or random input not 48; form: username buffer under 64, password buffer under 128
+ *   4  output under 8,192 bytes, cookie output under 64 (visit has none), or random input not 48; form: username buffer under 64, password
+ *      buffer under 128
  *   5  target over 2,048 bytes or body over 1,024
  *   6  time over 2^40 seconds
  *   7  form: body malformed as in login
  *   8  form: username or password absent
+ *   9  visit: no visit of this number, also without a live session
  */
 #ifndef PYHTIRSO_H
 #define PYHTIRSO_H
@@ -34,6 +36,9 @@ enum {
 
 /* And of a form's: refusal, length of the username, length of the password. */
 enum { PYHTIRSO_FORM = 3 };
+
+/* And of a visit's: refusal, bytes written to the output. */
+enum { PYHTIRSO_VISIT = 2 };
 
 /* A fresh table at a time, in seconds; gives the refusal number (1, 6). It does not ask what the table held. */
 uint32_t pyhtirso_format(uint8_t *table, size_t table_len, uint64_t time);
@@ -58,5 +63,12 @@ bool pyhtirso_answer(uint8_t *table, size_t table_len, const uint8_t *panels, si
  * places are 0. */
 bool pyhtirso_finish(uint8_t *table, size_t table_len, uint32_t serial, bool ok, uint64_t time, uint8_t *out, size_t out_len,
                      uint64_t *outcome, size_t outcome_len);
+
+/* What a panel is to be told of sign-off: of the visits of the session that `cookie` names, in slot order, the one of `number`, from 0. It is
+ * two lines with their feeds, the panel's service and the LogoutRequest for it, whose ID is of bytes 16-31 of `random`. The call changes no
+ * table: ask before a logout, or before a POST that may change the user, from 0 on until refusal 9. The numbers go to `visit`, a list of
+ * exactly PYHTIRSO_VISIT; with another length the call writes nothing and gives false. */
+bool pyhtirso_visit(const uint8_t *table, size_t table_len, const uint8_t *cookie, size_t cookie_len, uint32_t number, uint64_t time,
+                    const uint8_t *random, size_t random_len, uint8_t *out, size_t out_len, uint64_t *visit, size_t visit_len);
 
 #endif

@@ -1,5 +1,5 @@
 /* The calls by their texts, for the test host and the demonstration: a table, the register of a gate panel that may hold grants and of a lamp
- * panel, a clock that every call moves by a second, and what the last call said. */
+ * panel, a clock that every call but visit moves by a second, and what the last call said. */
 #ifndef CLIENT_H
 #define CLIENT_H
 
@@ -22,10 +22,16 @@ static void register_panels(void)
     panel(panels + BLOCK, LAMP, "");
 }
 
-static void hear(void)
+static void hear(uint64_t length)
 {
-    memcpy(said, out, outcome[PYHTIRSO_LENGTH]);
-    said[outcome[PYHTIRSO_LENGTH]] = 0;
+    memcpy(said, out, length);
+    said[length] = 0;
+}
+
+static void draw(void)
+{
+    for (int i = 0; i < RANDOM; i++)
+        random_bytes[i] = (uint8_t)rand();
 }
 
 /* One call of answer. `jar` is the caller's cookie, which the answer may replace or clear. */
@@ -33,13 +39,12 @@ static void call(char *jar, bool post, const char *target, const char *body, boo
 {
     uint64_t written;
     now++;
-    for (int i = 0; i < RANDOM; i++)
-        random_bytes[i] = (uint8_t)rand();
+    draw();
     if (!pyhtirso_answer(table, sizeof table, panels, sizeof panels, post, (const uint8_t *)target, strlen(target), (const uint8_t *)body,
                          strlen(body), (const uint8_t *)jar, strlen(jar), now, random_bytes, RANDOM, verdict, out, OUT, cookie_out, COOKIE,
                          outcome, PYHTIRSO_OUTCOME))
         abort();
-    hear();
+    hear(outcome[PYHTIRSO_LENGTH]);
     written = outcome[PYHTIRSO_COOKIE_LENGTH];
     memcpy(jar, cookie_out, written);
     if (written || outcome[PYHTIRSO_COOKIE_CLEARED])
@@ -51,7 +56,18 @@ static void finish(uint32_t serial, bool ok)
     now++;
     if (!pyhtirso_finish(table, sizeof table, serial, ok, now, out, OUT, outcome, PYHTIRSO_OUTCOME))
         abort();
-    hear();
+    hear(outcome[PYHTIRSO_LENGTH]);
+}
+
+/* One call of visit; gives its refusal number. */
+static inline uint64_t ask_visit(const char *jar, uint32_t number)
+{
+    uint64_t visit[PYHTIRSO_VISIT];
+    draw();
+    if (!pyhtirso_visit(table, sizeof table, (const uint8_t *)jar, strlen(jar), number, now, random_bytes, RANDOM, out, OUT, visit, PYHTIRSO_VISIT))
+        abort();
+    hear(visit[1]);
+    return visit[0];
 }
 
 /* The text between `from` and the next `to` (or the end) in a text; empty where there is none. */

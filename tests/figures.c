@@ -1,15 +1,13 @@
-/* Executed instructions of the proved archive beside the two plain C programs: one serviceValidate, one login POST and one refusal, over a table
- * of 8 and one of 127 records, all held. All programs get the same bytes, and after each call all that they may write is compared.
+/* Executed instructions of the proved archive beside the two plain C programs: one serviceValidate, one login POST, one visit and one refusal, over
+ * a table of 8 and one of 127 records, all held. All programs get the same bytes, and after each call all that they may write is compared.
  * Instructions are counted by the processor's trap flag: a signal after each one, natively as under an emulator.
- * With an argument it only compares: each way through the two steps, with serials and dates as they are usual and with the longest. */
+ * With an argument it only compares: each way through the three steps, with serials and dates as they are usual and with the longest. */
 #include "common.h"
 #include "plain.h"
 #include <signal.h>
 
-typedef __typeof__(pyhtirso_answer) answer_call;
-
 enum { MOST = 128 * BLOCK, PANELS = 4 };
-enum { FREE, LOGIN, SESSION, SERVICE, PROXY, WAITING, GRANT };
+enum { FREE, LOGIN, SESSION, SERVICE, PROXY, WAITING, GRANT, VISIT };
 
 static const char gate[] = "https://gate.lan/p", lamp[] = "https://lamp.lan/", callback[] = "https://gate.lan/cb";
 static uint8_t panels[PANELS * BLOCK];
@@ -17,29 +15,40 @@ static uint32_t first_serial;
 static uint64_t T; /* the table's clock */
 static int failed;
 
-/* ---- what a call may write, and what it is asked */
+/* ---- the programs' calls, what they may write, and what they are asked */
+
+struct program {
+    __typeof__(pyhtirso_answer) *answer;
+    __typeof__(pyhtirso_visit) *visit;
+};
 
 struct lent {
     uint8_t table[MOST], out[OUT], cookie_out[COOKIE];
-    uint64_t outcome[PYHTIRSO_OUTCOME];
+    uint64_t outcome[PYHTIRSO_OUTCOME]; /* a visit's numbers are its first */
 };
 
 struct asked {
     int records;
-    bool post;
+    bool visit, post;
     char target[512], body[512], cookie[COOKIE];
     bool verdict;
+    uint32_t number;
     uint64_t time;
 };
 
+static const struct program of_archive = { pyhtirso_answer, pyhtirso_visit }, of_plain = { plain_answer, plain_visit },
+                            of_whole = { whole_answer, whole_visit };
 static struct lent proved, plain, whole;
 static struct lent *const all[] = { &proved, &plain, &whole };
 
-static bool ask(answer_call *answer, struct lent *l, const struct asked *a)
+static bool ask(const struct program *p, struct lent *l, const struct asked *a)
 {
-    return answer(l->table, (size_t)(a->records + 1) * BLOCK, panels, sizeof panels, a->post, (const uint8_t *)a->target, strlen(a->target),
-                  (const uint8_t *)a->body, strlen(a->body), (const uint8_t *)a->cookie, strlen(a->cookie), a->time, random_bytes, RANDOM,
-                  a->verdict, l->out, OUT, l->cookie_out, COOKIE, l->outcome, PYHTIRSO_OUTCOME);
+    if (a->visit)
+        return p->visit(l->table, (size_t)(a->records + 1) * BLOCK, (const uint8_t *)a->cookie, strlen(a->cookie), a->number, a->time,
+                        random_bytes, RANDOM, l->out, OUT, l->outcome, PYHTIRSO_VISIT);
+    return p->answer(l->table, (size_t)(a->records + 1) * BLOCK, panels, sizeof panels, a->post, (const uint8_t *)a->target, strlen(a->target),
+                     (const uint8_t *)a->body, strlen(a->body), (const uint8_t *)a->cookie, strlen(a->cookie), a->time, random_bytes, RANDOM,
+                     a->verdict, l->out, OUT, l->cookie_out, COOKIE, l->outcome, PYHTIRSO_OUTCOME);
 }
 
 /* ---- a table whose slots are all held */
@@ -49,6 +58,8 @@ static void put_number(uint8_t *p, int width, uint64_t v)
     for (int i = 0; i < width; i++)
         p[i] = (uint8_t)(v >> (8 * i));
 }
+
+static int secret_length(int kind) { return kind == SESSION || kind == WAITING || kind == GRANT ? 16 : 9; }
 
 static void put_record(uint8_t *table, int slot, int kind, int mark, int parent, int session, int depth, uint64_t expiry, const char *text)
 {
@@ -61,7 +72,7 @@ static void put_record(uint8_t *table, int slot, int kind, int mark, int parent,
     r[6] = (uint8_t)depth;
     put_number(r + 8, 4, first_serial + (uint32_t)slot);
     put_number(r + 16, 8, expiry);
-    for (int i = 0; i < (kind == SESSION || kind >= WAITING ? 16 : 9); i++)
+    for (int i = 0; i < secret_length(kind); i++)
         r[24 + i] = (uint8_t)(slot * 7 + i * 13);
     put_number(r + 40, 2, strlen(text));
     memcpy(r + 44, text, strlen(text));
@@ -72,8 +83,8 @@ static void put_record(uint8_t *table, int slot, int kind, int mark, int parent,
     seal(r);
 }
 
-/* Groups of a session with its grant, proxy ticket, waiting grant, a login and a service ticket; then the login ticket and the service ticket
- * that are presented. The first group's login expires when the call is made. */
+/* Groups of a session with its grant, proxy ticket, waiting grant, a login and a visit; then the login ticket and the service ticket that are
+ * presented. The first group's login expires when the call is made, and its last record is a service ticket. */
 static void fill(uint8_t *table, int records)
 {
     memset(table, 0, MOST);
@@ -91,7 +102,7 @@ static void fill(uint8_t *table, int records)
         case 2: put_record(table, k, PROXY, 0, first + 1, first, 0, T + 200, lamp); break;
         case 3: put_record(table, k, WAITING, 1, first + 1, first, 2, T + 50, "https://lamp.lan/cb"); break;
         case 4: put_record(table, k, LOGIN, 0, 0, 0, 0, T + (k == 5 ? 10 : 400), ""); break;
-        default: put_record(table, k, SERVICE, 0, first, first, 0, T + 250, gate);
+        default: put_record(table, k, k == 6 ? SERVICE : VISIT, 0, first, first, 0, T + (k == 6 ? 250 : 20000), gate);
         }
     }
     put_record(table, records - 1, LOGIN, 0, 0, 0, 0, T + 500, "");
@@ -113,7 +124,7 @@ static const char *name(const uint8_t *table, int slot, const char *prefix)
     static char text[COOKIE + 16];
     const uint8_t *r = table + slot * BLOCK;
     int n = snprintf(text, sizeof text, "%s%u-", prefix, first_serial + (uint32_t)slot);
-    for (int i = 0; i < (r[0] == SESSION || r[0] >= WAITING ? 16 : 9); i++)
+    for (int i = 0; i < secret_length(r[0]); i++)
         n += snprintf(text + n, 3, "%02x", r[24 + i]);
     return text;
 }
@@ -152,6 +163,26 @@ static void set(int slot, int at, int width, uint64_t v)
     }
 }
 
+/* The service ticket in a slot has been accepted. */
+static void turn(int slot)
+{
+    set(slot, 0, 1, VISIT);
+    set(slot, 1, 1, 0);
+    set(slot, 16, 8, T + 20000);
+}
+
+/* The session in a slot; that of the first has two visits, the second of them in the last slot. */
+static struct asked visiting(int records, int cookie, uint32_t number)
+{
+    struct asked a = { .records = records, .visit = true, .number = number, .time = T + 10 };
+    fresh(records);
+    turn(6);
+    turn(records);
+    if (cookie)
+        snprintf(a.cookie, sizeof a.cookie, "%s", name(proved.table, cookie, "TGC-"));
+    return a;
+}
+
 /* ---- the programs compared */
 
 static void hold_equal(const char *what)
@@ -165,12 +196,12 @@ static void hold_equal(const char *what)
 
 static void compare(const char *what, const struct asked *a)
 {
-    if (!ask(pyhtirso_answer, &proved, a) || !ask(plain_answer, &plain, a) || !ask(plain_whole, &whole, a))
+    if (!ask(&of_archive, &proved, a) || !ask(&of_plain, &plain, a) || !ask(&of_whole, &whole, a))
         printf("NOT KNOWN: %s\n", what), failed++;
     hold_equal(what);
 }
 
-/* Each way through the two steps once, so that the plain program is known to be of the same steps. */
+/* Each way through the three steps once, so that the plain program is known to be of the same steps. */
 static int compare_ways(int records)
 {
     static const char coded[] = "https%3A%2F%2Fgate.lan%2Fp";
@@ -236,6 +267,31 @@ static int compare_ways(int records)
     WAY(signing_in(records, "ann", coded, true, 0), a.time = T);
     WAY(signing_in(records, "bob", coded, true, 1), a.time = T + 450);
     WAY(signing_in(records, "ann", coded, true, 1), a.time = T + 30000);
+    WAY(validating(records, coded, "&pgtUrl=https://gate.lan/cb", records, "ST-"), a.time = T); /* no slot for the grant */
+    WAY(validating(records, coded, "", 6, "ST-"), turn(6));
+    WAY(signing_in(records, "ann", coded, true, 1), turn(6));
+    WAY(signing_in(records, "bob", coded, true, 1), (turn(6), turn(records)));
+    WAY(visiting(records, 1, 0), (void)0);
+    WAY(visiting(records, 1, 1), (void)0);
+    WAY(visiting(records, 1, 2), (void)0);
+    WAY(visiting(records, 1, 4294967295u), (void)0);
+    WAY(visiting(records, 7, 0), (void)0);
+    WAY(visiting(records, 0, 0), (void)0);
+    WAY(visiting(records, 2, 0), (void)0);
+    WAY(visiting(records, 1, 1), a.time = 0);
+    WAY(visiting(records, 1, 1), a.time = T + 19999);
+    WAY(visiting(records, 1, 1), a.time = T + 20000);
+    WAY(visiting(records, 1, 1), a.time = 1ull << 40);
+    WAY(visiting(records, 1, 1), a.time = (1ull << 40) + 1);
+    WAY(visiting(records, 1, 1), damage(records));
+    WAY(visiting(records, 1, 1), a.records = 7);
+    WAY(visiting(records, 1, 1), set(6, 0, 1, 8));
+    WAY(visiting(records, 1, 1), set(6, 1, 1, 1));
+    WAY(visiting(records, 1, 1), set(6, 2, 2, 2));
+    WAY(visiting(records, 1, 1), set(6, 6, 1, 1));
+    WAY(visiting(records, 1, 1), set(6, 16, 8, T + 19999));
+    WAY(visiting(records, 1, 1), set(6, 33, 1, 1));
+    WAY(visiting(records, 1, 1), set(6, 40, 2, 0));
 #undef WAY
     return ways;
 }
@@ -250,20 +306,20 @@ static void on_step(int number)
     steps++;
 }
 
-static uint64_t count(answer_call *answer, struct lent *l, const struct asked *a)
+static uint64_t count(const struct program *p, struct lent *l, const struct asked *a)
 {
     steps = 0;
     __asm__ volatile("pushfq; orq $0x100, (%%rsp); popfq" ::: "memory", "cc");
-    ask(answer, l, a);
+    ask(p, l, a);
     __asm__ volatile("pushfq; andq $-0x101, (%%rsp); popfq" ::: "memory", "cc");
     return steps;
 }
 
-/* The same call of nothing: what the caller itself costs. */
-static bool nothing(uint8_t *table, size_t table_len, const uint8_t *register_bytes, size_t register_len, bool post, const uint8_t *target,
-                    size_t target_len, const uint8_t *body, size_t body_len, const uint8_t *cookie, size_t cookie_len, uint64_t time,
-                    const uint8_t *random, size_t random_len, bool verdict, uint8_t *output, size_t out_len, uint8_t *cookie_output,
-                    size_t cookie_out_len, uint64_t *numbers, size_t numbers_len)
+/* The same calls of nothing: what the caller itself costs. */
+static bool no_answer(uint8_t *table, size_t table_len, const uint8_t *register_bytes, size_t register_len, bool post, const uint8_t *target,
+                      size_t target_len, const uint8_t *body, size_t body_len, const uint8_t *cookie, size_t cookie_len, uint64_t time,
+                      const uint8_t *random, size_t random_len, bool verdict, uint8_t *output, size_t out_len, uint8_t *cookie_output,
+                      size_t cookie_out_len, uint64_t *numbers, size_t numbers_len)
 {
     (void)table, (void)table_len, (void)register_bytes, (void)register_len, (void)post, (void)target, (void)target_len, (void)body;
     (void)body_len, (void)cookie, (void)cookie_len, (void)time, (void)random, (void)random_len, (void)verdict, (void)output, (void)out_len;
@@ -271,10 +327,20 @@ static bool nothing(uint8_t *table, size_t table_len, const uint8_t *register_by
     return false;
 }
 
+static bool no_visit(const uint8_t *table, size_t table_len, const uint8_t *cookie, size_t cookie_len, uint32_t number, uint64_t time,
+                     const uint8_t *random, size_t random_len, uint8_t *output, size_t out_len, uint64_t *numbers, size_t numbers_len)
+{
+    (void)table, (void)table_len, (void)cookie, (void)cookie_len, (void)number, (void)time, (void)random, (void)random_len, (void)output;
+    (void)out_len, (void)numbers, (void)numbers_len;
+    return false;
+}
+
+static const struct program of_nothing = { no_answer, no_visit };
+
 static void measure(const char *what, const struct asked *a)
 {
-    uint64_t caller = count(nothing, &plain, a), mine = count(pyhtirso_answer, &proved, a) - caller;
-    uint64_t early = count(plain_answer, &plain, a) - caller, late = count(plain_whole, &whole, a) - caller;
+    uint64_t caller = count(&of_nothing, &plain, a), mine = count(&of_archive, &proved, a) - caller;
+    uint64_t early = count(&of_plain, &plain, a) - caller, late = count(&of_whole, &whole, a) - caller;
     printf("| %s, %d records | %llu | %llu | %.2f | %llu | %.2f |\n", what, a->records, (unsigned long long)mine, (unsigned long long)early,
            (double)mine / (double)early, (unsigned long long)late, (double)mine / (double)late);
     hold_equal(what);
@@ -314,6 +380,8 @@ int main(int argc, char **argv)
         measure("serviceValidate, accepted", &a);
         a = signing_in(sizes[i], "ann", "https%3A%2F%2Fgate.lan%2Fp", true, 0);
         measure("login POST, accepted", &a);
+        a = visiting(sizes[i], 1, 1);
+        measure("visit, told", &a);
         a = validating(sizes[i], "https%3A%2F%2Fgate.lan%2Fp", "", sizes[i], "ST-");
         damage(sizes[i]);
         measure("refusal 2, a byte of the last block", &a);

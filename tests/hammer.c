@@ -1,6 +1,7 @@
-/* A hammer: long random and mutated runs against the five calls. After each call it checks that a refused call left every byte, that a table
- * which an answered call left is sound, that lengths lie within the buffers and bytes beyond them are untouched, and that no ticket succeeds
- * twice. Bounded by its two arguments: a seed and the number of calls. It prints what it tried and what it found. */
+/* A hammer: long random and mutated runs against the five calls that take a table. After each call it checks that a refused call left every
+ * byte, that a table which an answered call left is sound, that lengths lie within the buffers and bytes beyond them are untouched, that no
+ * ticket succeeds twice, and that visits are told of tickets that succeeded and change no table. Bounded by its two arguments: a seed and the
+ * number of calls. It prints what it tried and what it found. */
 #include "common.h"
 
 enum { MOST = 128 * BLOCK, PANELS = 3, KEPT = 4096 };
@@ -8,7 +9,7 @@ enum { MOST = 128 * BLOCK, PANELS = 3, KEPT = 4096 };
 static uint8_t table[MOST], before[MOST], panels[16 * BLOCK], out_before[OUT], cookie_before[COOKIE];
 static size_t table_len = 9 * BLOCK, panels_len = PANELS * BLOCK;
 static uint64_t now = 1000, seed = 1;
-static long calls, answered, refused[9], accepted, faults;
+static long calls, answered, refused[10], accepted, told, faults;
 static char target[2200], body[1200], cookie[200];
 
 /* Texts that answers showed, to be shown again. */
@@ -114,17 +115,40 @@ static bool make_request(void)
     return post;
 }
 
-/* A ticket that succeeded, by the place where it is kept. */
-static void succeeded(const char *ticket)
+/* The place where a ticket is kept, or -1. */
+static int place_of(const char *ticket)
 {
     for (int i = 0; i < n_tickets; i++)
-        if (!strcmp(tickets[i], ticket)) {
-            if (won[i])
-                fault("a ticket succeeded twice");
-            won[i] = 1;
-            accepted++;
-            return;
-        }
+        if (!strcmp(tickets[i], ticket))
+            return i;
+    return -1;
+}
+
+static void succeeded(const char *ticket)
+{
+    int i = place_of(ticket);
+    if (i < 0)
+        return;
+    if (won[i])
+        fault("a ticket succeeded twice");
+    won[i] = 1;
+    accepted++;
+}
+
+/* The two lines of a visit: the service of a ticket that succeeded, and its text in the request. */
+static void hear_visit(uint64_t n)
+{
+    static char said[OUT + 1];
+    char ticket[80] = "", first[256];
+    int i;
+    memcpy(said, out, n);
+    said[n] = 0;
+    sscanf(said, "%*[^\n]\n<samlp:LogoutRequest %*[^@]@NOT_USED@</saml:NameID><samlp:SessionIndex>%79[^<]", ticket);
+    i = place_of(ticket);
+    snprintf(first, sizeof first, "%s\n", i < 0 ? "" : services[service_of[i]]);
+    if (i < 0 || !won[i] || strncmp(ticket, "ST-", 3) || strncmp(said, first, strlen(first)))
+        fault("a visit of no ticket that succeeded");
+    told++;
 }
 
 static void learn(void)
@@ -165,7 +189,7 @@ static void learn(void)
 static void hold(size_t out_len, size_t cookie_len)
 {
     uint64_t *o = outcome;
-    if (o[0] > 8)
+    if (o[0] > 9)
         fault("a number that is no refusal");
     else if (o[0]) {
         refused[o[0]]++;
@@ -223,12 +247,39 @@ static void finish(void)
     hold(out_len, 0);
 }
 
+/* A visit of a cookie's session, now and then with a shaken cookie, any number, a time to come or any, a cut table. */
+static void visit(void)
+{
+    size_t out_len = one_in(40) ? any() % OUT : OUT, random_len = one_in(40) ? any() % RANDOM : RANDOM;
+    size_t len = one_in(40) ? any() % table_len : table_len;
+    uint32_t number = one_in(10) ? (uint32_t)any() : (uint32_t)(any() % 3);
+    uint64_t time = one_in(40) ? any() : one_in(10) ? now + any() % 30000 : now, list[PYHTIRSO_VISIT];
+    snprintf(target, sizeof target, "visit %u", number);
+    snprintf(cookie, sizeof cookie, "%s", one_in(10) ? "" : pick(cookies, n_cookies));
+    if (*cookie && one_in(10))
+        cookie[any() % strlen(cookie)] ^= (char)(1 + any() % 255);
+    prepare();
+    pyhtirso_visit(table, len, (uint8_t *)cookie, strlen(cookie), number, time, random_bytes, random_len, out, out_len, list, PYHTIRSO_VISIT);
+    memset(outcome, 0, sizeof outcome);
+    outcome[PYHTIRSO_REFUSAL] = list[0];
+    outcome[PYHTIRSO_LENGTH] = list[1];
+    hold(out_len, 0);
+    if (memcmp(table, before, table_len))
+        fault("a visit changed the table");
+    if (!list[0])
+        hear_visit(list[1]);
+}
+
 /* A byte of the table or the register is changed: the next call must refuse it and leave it; then it is changed back. */
 static void damage(void)
 {
-    uint8_t *b = one_in(4) ? panels + any() % panels_len : table + any() % table_len, old = *b;
+    bool of_panels = one_in(4);
+    uint8_t *b = of_panels ? panels + any() % panels_len : table + any() % table_len, old = *b;
     *b ^= (uint8_t)(1 + any() % 255);
-    call();
+    if (of_panels || one_in(2))
+        call();
+    else
+        visit();
     if (!outcome[0])
         fault("a damaged byte was not noticed");
     *b = old;
@@ -281,14 +332,16 @@ int main(int argc, char **argv)
             start();
         else if (one_in(10))
             finish();
+        else if (one_in(10))
+            visit();
         else if (one_in(30))
             damage();
         else
             call();
     }
     every_place();
-    printf("%ld calls, %ld answered, %ld tickets accepted; refused", calls, answered, accepted);
-    for (int i = 1; i < 9; i++)
+    printf("%ld calls, %ld answered, %ld tickets accepted, %ld visits told; refused", calls, answered, accepted, told);
+    for (int i = 1; i < 10; i++)
         printf(" %d:%ld", i, refused[i]);
     printf("\n%ld faults\n", faults);
     return faults != 0;

@@ -1,6 +1,7 @@
-/* A host in plain C: it signs a user in, validates, replays the ticket, takes a grant, proxies, to the deepest chain too, and logs out, and
- * checks each answer. */
+/* A host in plain C: it signs a user in, validates, replays the ticket, takes a grant, proxies, to the deepest chain too, has the visits told and
+ * logs out, and checks each answer. */
 #include "client.h"
+#include <time.h>
 
 static int failed;
 
@@ -18,9 +19,50 @@ static int proxies_told(void)
     return n;
 }
 
+static void take_ticket(char *jar, char *ticket)
+{
+    call(jar, false, "/cas/login?service=" LAMP, "", false);
+    snprintf(ticket, 80, "%s", between(said, "ticket=", ""));
+}
+
+static void validate(char *jar, const char *service, const char *ticket)
+{
+    char target[512];
+    snprintf(target, sizeof target, "/cas/serviceValidate?service=%s&ticket=%s", service, ticket);
+    call(jar, false, target, "", false);
+}
+
+static int visits_held(void)
+{
+    int n = 0;
+    for (int slot = 1; slot < BLOCKS; slot++)
+        n += table[slot * BLOCK] == 7;
+    return n;
+}
+
+/* Whether the visit of a number is told of that service and ticket, byte by byte, and the table is as it was. */
+static bool told(const char *jar, uint32_t number, const char *service, const char *ticket)
+{
+    static uint8_t before[sizeof table];
+    char id[33], date[32], text[1024];
+    time_t instant = (time_t)now;
+    memcpy(before, table, sizeof table);
+    if (ask_visit(jar, number))
+        return false;
+    for (int i = 0; i < 16; i++)
+        snprintf(id + 2 * i, 3, "%02x", random_bytes[16 + i]);
+    strftime(date, sizeof date, "%Y-%m-%dT%H:%M:%SZ", gmtime(&instant));
+    snprintf(text, sizeof text,
+             "%s\n<samlp:LogoutRequest xmlns:samlp=\"urn:oasis:names:tc:SAML:2.0:protocol\" ID=\"_%s\" Version=\"2.0\" IssueInstant=\"%s\">"
+             "<saml:NameID xmlns:saml=\"urn:oasis:names:tc:SAML:2.0:assertion\">@NOT_USED@</saml:NameID>"
+             "<samlp:SessionIndex>%s</samlp:SessionIndex></samlp:LogoutRequest>\n",
+             service, id, date, ticket);
+    return !strcmp(said, text) && !memcmp(before, table, sizeof table);
+}
+
 int main(void)
 {
-    char jar[JAR] = "", kept[JAR], body[1024], target[2048], ticket[80], pgt[80], iou[80];
+    char jar[JAR] = "", kept[JAR], body[1024], target[2048], ticket[80], first[80], burnt[80], low[80], high[80], pgt[80], iou[80];
     uint64_t wrong[6];
     now = 1000;
     register_panels();
@@ -39,11 +81,11 @@ int main(void)
 
     call(jar, true, "/cas/login", body, true);
     expect("sign in", says(REDIRECT, 303, "https://gate.lan/p?ticket=ST-") && outcome[PYHTIRSO_COOKIE_LENGTH] > 0);
-    snprintf(ticket, sizeof ticket, "%s", between(said, "ticket=", ""));
+    snprintf(first, sizeof first, "%s", between(said, "ticket=", ""));
     call(jar, true, "/cas/login", body, true);
     expect("the login ticket is spent", says(PAGE, 401, "<p>401</p>"));
 
-    snprintf(target, sizeof target, "/cas/serviceValidate?service=https://gate.lan/p&pgtUrl=https://gate.lan/cb&ticket=%s", ticket);
+    snprintf(target, sizeof target, "/cas/serviceValidate?service=https://gate.lan/p&pgtUrl=https://gate.lan/cb&ticket=%s", first);
     call(jar, false, target, "", false);
     expect("validate: a callback", says(CALLBACK, 0, "https://gate.lan/cb?pgtId=PGT-") && outcome[PYHTIRSO_CALLBACK_SERIAL] != 0);
     snprintf(pgt, sizeof pgt, "%s", between(said, "pgtId=", "&"));
@@ -78,16 +120,32 @@ int main(void)
     expect("grants down to depth four", deepened == 3);
     expect("below it success without a grant, four proxies told", says(XML, 200, "<cas:user>ann</cas:user>") && proxies_told() == 4);
 
+    take_ticket(jar, burnt);
+    take_ticket(jar, high);
+    validate(jar, GATE, burnt);
+    take_ticket(jar, low); /* in the burnt ticket's slot, which is before that of the ticket taken earlier */
+    validate(jar, LAMP, high);
+    validate(jar, LAMP, low);
+    now += 60;
+    expect("three visits told in slot order, the table left as it is",
+           visits_held() == 3 && told(jar, 0, GATE, first) && told(jar, 1, LAMP, low) && told(jar, 2, LAMP, high));
+    expect("no fourth visit, and none without a session", ask_visit(jar, 3) == 9 && ask_visit("", 0) == 9 && !*said);
+    validate(jar, LAMP, low);
+    expect("a visit's ticket is shown in vain, and the visit stays", says(XML, 200, "code=\"INVALID_TICKET\"") && told(jar, 1, LAMP, low));
+
     memcpy(kept, jar, JAR);
     call(jar, false, "/cas/logout?url=https://lamp.lan/", "", false);
     expect("log out", says(PAGE, 200, "<a href=\"https://lamp.lan/\">Back</a>") && outcome[PYHTIRSO_COOKIE_CLEARED] == 1);
+    expect("no visit is left", ask_visit(kept, 0) == 9 && !visits_held());
     call(kept, false, "/cas/login", "", false);
     expect("the session is gone", says(PAGE, 200, "<form"));
 
     memset(wrong, 7, sizeof wrong);
     memcpy(said, table, BLOCK);
     expect("a list of another length is refused and nothing is written",
-           !pyhtirso_finish(table, sizeof table, 1, true, now, out, OUT, wrong, 6) && wrong[0] == 0x0707070707070707u && !memcmp(said, table, BLOCK));
+           !pyhtirso_finish(table, sizeof table, 1, true, now, out, OUT, wrong, 6)
+               && !pyhtirso_visit(table, sizeof table, cookie_out, 0, 0, now, random_bytes, RANDOM, out, OUT, wrong, 3)
+               && wrong[0] == 0x0707070707070707u && !memcmp(said, table, BLOCK));
     printf("%d failed\n", failed);
     return failed != 0;
 }

@@ -1,4 +1,4 @@
-/* The call of the plain C program: as pyhtirso_answer, for POST to /cas/login and GET of /cas/serviceValidate only. */
+/* The calls of the plain C program: as pyhtirso_answer, for POST to /cas/login and GET of /cas/serviceValidate only, and as pyhtirso_visit. */
 #ifndef PLAIN_H
 #define PLAIN_H
 
@@ -12,7 +12,11 @@ bool plain_answer(uint8_t *table, size_t table_len, const uint8_t *panels, size_
                   const uint8_t *random, size_t random_len, bool verdict, uint8_t *out, size_t out_len, uint8_t *cookie_out,
                   size_t cookie_out_len, uint64_t *outcome, size_t outcome_len);
 
+bool plain_visit(const uint8_t *table, size_t table_len, const uint8_t *cookie, size_t cookie_len, uint32_t number, uint64_t time,
+                 const uint8_t *random, size_t random_len, uint8_t *out, size_t out_len, uint64_t *visit, size_t visit_len);
+
 /* The same, made with WHOLE. */
-__typeof__(plain_answer) plain_whole;
+__typeof__(plain_answer) whole_answer;
+__typeof__(plain_visit) whole_visit;
 
 #endif

@@ -1,4 +1,4 @@
-/* The stack's high-water mark. Linked with `--wrap` into the test host or the hammer, it runs each of their calls of answer and finish on a
+/* The stack's high-water mark. Linked with `--wrap` into the test host or the hammer, it runs each of their calls of answer, finish and visit on a
  * painted stack of its own, and at the end tells how far down any of them wrote: from the host's stack pointer before the call, so arguments
  * and return address are in it. */
 #include "../include/pyhtirso.h"
@@ -7,18 +7,19 @@
 
 enum { STACK = 65536, PAINT = 0xa5 };
 
-static _Alignas(16) uint8_t answer_stack[STACK], finish_stack[STACK];
+static _Alignas(16) uint8_t answer_stack[STACK], finish_stack[STACK], visit_stack[STACK];
 
 __typeof__(pyhtirso_answer) __real_pyhtirso_answer, __wrap_pyhtirso_answer;
 __typeof__(pyhtirso_finish) __real_pyhtirso_finish, __wrap_pyhtirso_finish;
+__typeof__(pyhtirso_visit) __real_pyhtirso_visit, __wrap_pyhtirso_visit;
 
 /* The arguments of the call under way. */
 static struct {
     uint8_t *table, *out, *cookie_out;
-    const uint8_t *panels, *target, *body, *cookie, *random;
+    const uint8_t *read, *panels, *target, *body, *cookie, *random; /* `read` is the table of a visit */
     size_t table_len, panels_len, target_len, body_len, cookie_len, random_len, out_len, cookie_out_len, outcome_len;
     uint64_t time, *outcome;
-    uint32_t serial;
+    uint32_t serial, number;
     bool post, verdict, ok, result;
 } at;
 
@@ -32,6 +33,12 @@ static void answer(void)
 static void finish(void)
 {
     at.result = __real_pyhtirso_finish(at.table, at.table_len, at.serial, at.ok, at.time, at.out, at.out_len, at.outcome, at.outcome_len);
+}
+
+static void visit(void)
+{
+    at.result = __real_pyhtirso_visit(at.read, at.table_len, at.cookie, at.cookie_len, at.number, at.time, at.random, at.random_len, at.out,
+                                      at.out_len, at.outcome, at.outcome_len);
 }
 
 static void run_on(uint8_t *stack, void (*call)(void))
@@ -65,6 +72,15 @@ bool __wrap_pyhtirso_finish(uint8_t *table, size_t table_len, uint32_t serial, b
     return at.result;
 }
 
+bool __wrap_pyhtirso_visit(const uint8_t *table, size_t table_len, const uint8_t *cookie, size_t cookie_len, uint32_t number, uint64_t time,
+                           const uint8_t *random, size_t random_len, uint8_t *out, size_t out_len, uint64_t *list, size_t list_len)
+{
+    at.read = table, at.table_len = table_len, at.cookie = cookie, at.cookie_len = cookie_len, at.number = number, at.time = time;
+    at.random = random, at.random_len = random_len, at.out = out, at.out_len = out_len, at.outcome = list, at.outcome_len = list_len;
+    run_on(visit_stack, visit);
+    return at.result;
+}
+
 static int used(const uint8_t *stack)
 {
     int i = 0;
@@ -77,9 +93,10 @@ __attribute__((constructor)) static void paint(void)
 {
     memset(answer_stack, PAINT, STACK);
     memset(finish_stack, PAINT, STACK);
+    memset(visit_stack, PAINT, STACK);
 }
 
 __attribute__((destructor)) static void tell(void)
 {
-    printf("stack: answer %d bytes, finish %d bytes\n", used(answer_stack), used(finish_stack));
+    printf("stack: answer %d bytes, finish %d bytes, visit %d bytes\n", used(answer_stack), used(finish_stack), used(visit_stack));
 }

@@ -1,4 +1,5 @@
 /* The plain C program once more, with loops over bytes that run to their end, as the archive's does: the compiler takes many bytes at a time. */
 #define WHOLE
-#define plain_answer plain_whole
+#define plain_answer whole_answer
+#define plain_visit whole_visit
 #include "plain.c"

@@ -18,7 +18,7 @@ use Rattle.account.proofs.Edits.{alive-is, under-of}
 module _ (L : Notebook) (A : List Slot) (n : ℕ) (S : Sim L A n) (slots : List Rec) (rec : (k : ℕ) → recAt k slots ≡ on A k .r) where
   -- a parent grant lives
   above-lives : (p s : ℕ) (chain : List Text) → Above A p s chain → L .clock < on A s .r .expiry → lives (L .clock) A p ≡ true
-  above-lives p s chain h v = alive-is (L .clock) (on A p .r) (omega (arith, h .grants)) (omega (arith, h .even))
+  above-lives p s chain h v = alive-is (L .clock) (on A p .r) (omega (arith, h .grants), omega (arith, h .grants)) (omega (arith, h .even))
 
   above-under : (p s : ℕ) (chain : List Text) → Above A p s chain → L .clock < on A s .r .expiry → Under A (on A p)
   above-under p s chain h v = under-of A (on A p) (S .good p (above-lives p s chain h v) .placed) (omega (arith, h .grants))

@@ -1,13 +1,13 @@
 -- Demand 3: the account of every run. Assumes nothing.
 use mathlib.Core.Path.{_≡_, refl, sym, ap, ap₂, _∙_}
 use mathlib.Core.Logic.{_≢_}
-use mathlib.Core.Bool.{Bool, true, false, not, _&&_}
+use mathlib.Core.Bool.{Bool, true, false, _&&_}
 use mathlib.Core.List.{List, [], _∷_, map, List·Memᴰ, Memᴰ·of-map}
 use Prim.Native.Nat.{ℕ, zero, suc, _+_, _≤_}
 use native.Mathlib.Omega.{arith}
-use borrow.Author.Tests.{eqb-true, ne-eqb}
+use borrow.Author.Tests.{eqb-true, ltb-true}
 use lib.Dec.{eqb, ltb}
-use Rattle.protocol.specs.Bytes.{same}
+use Rattle.protocol.specs.Bytes.{same, within}
 use Rattle.protocol.specs.Tickets.{aLogin, aWaiting}
 use Rattle.protocol.specs.Records.{freeRec, live}
 use Rattle.protocol.specs.Table.{Table, decodeTable}
@@ -21,7 +21,7 @@ use Rattle.account.specs.Truth.{Origin, originOf, calledOf}
 use Rattle.account.specs.Account.{one, acceptances, successes, waitingAmong, waitingIn, Rightful, Owed, Honest, Account}
 use Rattle.account.proofs.Base.{Case, is, isnt, case, clash, and-yes, when}
 use Rattle.account.proofs.Sim.{Slot, on, alive, lives, weight, weigh}
-use Rattle.account.proofs.Edits.{raise-name, close-name}
+use Rattle.account.proofs.Edits.{raise-name, close-name, ticket-among, alive-is}
 use Rattle.account.proofs.Look.{recOf, Tied, seen}
 use Rattle.account.proofs.Reached.{RightLine, Owes, AllOwes}
 use Rattle.account.specs.Account.{issuesIn, acceptsIn, sumIn}
@@ -284,18 +284,17 @@ waiting-weigh c (a ∷ A) h = ap₂ _+_ (go (case (alive c (a .r)))) (waiting-we
     same-one false = refl
 
     go : Case (alive c (a .r)) → weight c (λ e. when (isTicket (e .kind)) 1) a ≡ one (isTicket (a .r .kind) && live c (a .r))
-    go (is z) = rw (z, h 0 z, both (not (eqb (a .r .kind) 0)) (ltb c (a .r .expiry)) z .1, and-yes (isTicket (a .r .kind))) (same-one (isTicket (a .r .kind)))
+    go (is z) = rw (z, h 0 z, both (within 1 6 (a .r .kind)) (ltb c (a .r .expiry)) z .1, and-yes (isTicket (a .r .kind))) (same-one (isTicket (a .r .kind)))
     go (isnt z) = rw z (dead (case (isTicket (a .r .kind))))
       where
         dead : Case (isTicket (a .r .kind)) → 0 ≡ one (isTicket (a .r .kind) && live c (a .r))
         dead (is t) = rw t (late (case (ltb c (a .r .expiry))))
           where
-            some : (k : ℕ) → isTicket k ≡ true → eqb k 0 ≡ false
-            some zero t = absurd (clash t refl)
-            some (suc k) t = ne-eqb (suc k) 0 (λ e. omega arith)
+            k : (3 ≤ a .r .kind) × (a .r .kind ≤ 4)
+            k = ticket-among (a .r .kind) t
 
             late : Case (ltb c (a .r .expiry)) → 0 ≡ one (ltb c (a .r .expiry))
-            late (is l) = absurd (clash {b = alive c (a .r)} (rw (some (a .r .kind) t, l)) z)
+            late (is l) = absurd (clash {b = alive c (a .r)} (alive-is c (a .r) (omega (arith, k .0), omega (arith, k .1)) (ltb-true c (a .r .expiry) l)) z)
             late (isnt l) = rw l
         dead (isnt t) = rw t
 

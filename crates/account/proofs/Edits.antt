@@ -2,44 +2,45 @@
 -- Assumes nothing.
 use mathlib.Core.Path.{_≡_, refl, sym, ap, _∙_}
 use mathlib.Core.Logic.{_⊎_, inl, inr, _≢_}
-use mathlib.Core.Bool.{Bool, true, false, not, _&&_}
+use mathlib.Core.Bool.{Bool, true, false, _&&_}
 use mathlib.Core.List.{List, _∷_, List·Memᴰ, List·Memᴰ·cases-cons}
 use Prim.Native.Nat.{ℕ, zero, suc, _+_, _≤_, _<_}
 use native.Mathlib.Omega.{arith}
 use native.Mathlib.Decide.{ℕ-discrete}
-use borrow.Author.Tests.{ne-eqb, eqb-false, lt-leb, ltb-true, lt-ltb, not-true, leb-false}
+use borrow.Author.Tests.{eqb-true, lt-leb, ltb-true, lt-ltb, leb-true, leb-false, le-leb}
 use lib.ListN.{length, set, length-set}
 use lib.Seq.{getD-set-same, getD-set-other}
-use lib.Dec.{leb, ltb, eqb}
-use Rattle.protocol.specs.Bytes.{if}
+use lib.Dec.{eqb, leb, ltb}
+use Rattle.protocol.specs.Bytes.{if, within}
 use Rattle.protocol.specs.Records.{Rec, nameOf}
 use Rattle.protocol.proofs.Laws.{both}
 use Rattle.account.specs.History.{Text}
-use Rattle.account.specs.Notebook.{Fate, expired, Line, Notebook, isHeld, close, closeLine, closeAll, raise, raiseLine, enter}
+use Rattle.account.specs.Notebook.{Fate, expired, Line, Notebook, isHeld, close, closeLine, closeAll, raise, raiseLine, enter, isTicket}
 use Rattle.account.proofs.Base.{Case, is, isnt, case, clash, sum-set}
 use Rattle.account.proofs.Sim.{Slot, noSlot, on, alive, lives, weight, weigh, heft, total, Up, upOf, Under, Placed, login, session, below, Good, Before, Sim, good-move, Turn, stays, goes, never, through, sim-through}
 
--- what lives is not free and not expired, and the other way
-pub alive-kind : (c : ℕ) (r : Rec) → alive c r ≡ true → 1 ≤ r .kind
+-- what lives is of a kind that has lines, and not expired, and the other way
+pub alive-kind : (c : ℕ) (r : Rec) → alive c r ≡ true → (1 ≤ r .kind) × (r .kind ≤ 6)
 alive-kind c r l =
-    let z = eqb-false (r .kind) 0 (not-true (eqb (r .kind) 0) (both (not (eqb (r .kind) 0)) (ltb c (r .expiry)) l .0)) in
-    go (r .kind) z
-  where
-    go : (k : ℕ) → (k ≡ 0 → ⊥) → 1 ≤ k
-    go zero f = absurd (f refl)
-    go (suc k) f = omega arith
+    let k = both (leb 1 (r .kind)) (leb (r .kind) 6) (both (within 1 6 (r .kind)) (ltb c (r .expiry)) l .0) in
+    (leb-true 1 (r .kind) (k .0), leb-true (r .kind) 6 (k .1))
 
 pub alive-time : (c : ℕ) (r : Rec) → alive c r ≡ true → c < r .expiry
-alive-time c r l = ltb-true c (r .expiry) (both (not (eqb (r .kind) 0)) (ltb c (r .expiry)) l .1)
+alive-time c r l = ltb-true c (r .expiry) (both (within 1 6 (r .kind)) (ltb c (r .expiry)) l .1)
 
-pub alive-is : (c : ℕ) (r : Rec) → 1 ≤ r .kind → c < r .expiry → alive c r ≡ true
-alive-is c r k t =
-    let z : eqb (r .kind) 0 ≡ false = ne-eqb (r .kind) 0 (λ e. omega arith) in
-    let w : ltb c (r .expiry) ≡ true = lt-ltb c (r .expiry) t in
-    rw (z, w)
+pub alive-is : (c : ℕ) (r : Rec) → (1 ≤ r .kind) × (r .kind ≤ 6) → c < r .expiry → alive c r ≡ true
+alive-is c r k t = rw (le-leb 1 (r .kind) (k .0), le-leb (r .kind) 6 (k .1), lt-ltb c (r .expiry) t)
 
 pub free-dead : (c : ℕ) (r : Rec) → r .kind ≡ 0 → alive c r ≡ false
 free-dead c r k = rw k
+
+-- a ticket's kind is 3 or 4
+pub ticket-among : (k : ℕ) → isTicket k ≡ true → (3 ≤ k) × (k ≤ 4)
+ticket-among k z = go (case (eqb k 3))
+  where
+    go : Case (eqb k 3) → (3 ≤ k) × (k ≤ 4)
+    go (is x) = let y = eqb-true k 3 x in (omega arith, omega arith)
+    go (isnt x) = let y : k ≡ 4 = eqb-true k 4 (rw x at z) in (omega arith, omega arith)
 
 -- what stands below a session
 pub under-of : (A : List Slot) (a : Slot) → Placed A a → 3 ≤ a .r .kind → Under A a
@@ -49,13 +50,13 @@ under-of A a (below k u) h = u
 
 -- its session lives, and its parent, so a free slot is neither
 pub home-lives : (c : ℕ) (A : List Slot) (a : Slot) → Under A a → c < a .r .expiry → lives c A (a .r .session) ≡ true
-home-lives c A a u t = alive-is c (on A (a .r .session) .r) (omega (arith, u .home)) (omega (arith, u .within))
+home-lives c A a u t = alive-is c (on A (a .r .session) .r) (omega (arith, u .home), omega (arith, u .home)) (omega (arith, u .within))
 
 pub up-lives : (c : ℕ) (A : List Slot) (p s : ℕ) (chain : List Text) (k : ℕ) → Up A p s chain → c < on A s .r .expiry → p ≡ suc k → lives c A (suc k) ≡ true
 up-lives c A zero s chain k h l e = absurd (omega arith)
 up-lives c A (suc p) s chain k h l e =
     let e′ : p ≡ k = omega arith in
-    rw e′ at (alive-is c (on A (suc p) .r) (omega (arith, h .grants)) (omega (arith, h .even)))
+    rw e′ at (alive-is c (on A (suc p) .r) (omega (arith, h .grants), omega (arith, h .grants)) (omega (arith, h .even)))
 
 pub parent-lives : (c : ℕ) (A : List Slot) (a : Slot) (k : ℕ) → Under A a → c < a .r .expiry → upOf (a .r) ≡ suc k → lives c A (suc k) ≡ true
 parent-lives c A a k u t e = up-lives c A (upOf (a .r)) (a .r .session) (a .e .chain) k (u .line) (omega (arith, u .within)) e
@@ -207,8 +208,8 @@ module _ (L : Notebook) (A : List Slot) (n : ℕ) (S : Sim L A n) (i : ℕ) (lt 
             kind = a .r .kind;
             serial = a .r .serial;
             secret = a .r .secret;
-            some = alive-kind (L .clock) (a .r) la;
-            known = ga .kind-most;
+            some = alive-kind (L .clock) (a .r) la .0;
+            known = alive-kind (L .clock) (a .r) la .1;
             is-name = ap (λ (x : Line). x .name) q ∙ ga .name-eq;
             below = ga .young;
           }

@@ -1,5 +1,6 @@
 -- One thing said beside one edit of the table: each keeps the table at the trail. Assumes nothing.
 use mathlib.Core.Path.{_≡_, refl, ap, _∙_}
+use mathlib.Core.Logic.{_≢_}
 use mathlib.Core.Bool.{Bool, true, false}
 use mathlib.Core.List.{List, [], _∷_}
 use Prim.Native.Nat.{ℕ, zero, suc, _+_, _≤_, _<_}
@@ -10,22 +11,22 @@ use lib.Dec.{eqb}
 use Rattle.protocol.specs.Bytes.{if, ascii, same}
 use Rattle.protocol.specs.Tickets.{iouText, iouFrom, aLogin, aSession, aService, aProxy, aWaiting, aGrant}
 use Rattle.protocol.specs.Records.{Rec, freeRec, nameOf}
-use Rattle.protocol.specs.Table.{Table, recAt, putAt}
+use Rattle.protocol.specs.Table.{Table, recAt}
 use Rattle.protocol.specs.Answers.{successText}
-use Rattle.protocol.specs.Steps.{tick, put, remove, endSession, isNamed, slotNamed, sessionOf, ticketSlot, waitingSlot, newRec, add, chainOf, proxyParent, granted, isPlain, takesProxies}
+use Rattle.protocol.specs.Steps.{tick, put, remove, endSession, isNamed, slotNamed, sessionOf, ticketSlot, waitingSlot, newRec, add, chainOf, proxyParent, turned, isPlain, takesProxies}
 use Rattle.protocol.specs.declared.Validator.{Validator}
 use Rattle.protocol.proofs.Laws.{both, same-eq}
 use Rattle.protocol.proofs.Added.{Room}
 use Rattle.account.specs.History.{Text}
 use Rattle.account.specs.Reading.{Item, Passed, Showed, Spent, Ended, Opened, Issued, Proxied, Burnt, Welcomed, CalledBack, Settled}
-use Rattle.account.specs.Notebook.{Line, Fate, burnt, accepted, spent, Notebook, isHeld, closeAll, isLine, isTicket, isTicketLine, isWaitingLine, note, notebook}
+use Rattle.account.specs.Notebook.{Line, burnt, accepted, spent, Notebook, closeAll, isLine, isTicket, isTicketLine, isWaitingLine, note, notebook}
 use Rattle.account.specs.Truth.{clockOf, loginUntil, loginLive, spentLive}
 use Rattle.account.specs.Account.{one}
 use Rattle.account.proofs.Base.{Case, is, isnt, case, clash}
-use Rattle.account.proofs.Sim.{Slot, noSlot, on, Above, Up, upOf, Under, Sim}
-use Rattle.account.proofs.Edits.{alive-time, under-of, home-lives}
+use Rattle.account.proofs.Sim.{Slot, bare, noSlot, on, alive, Above, Up, upOf, Under, Sim}
+use Rattle.account.proofs.Edits.{alive-time, ticket-among, under-of, home-lives}
 use Rattle.account.proofs.Look.{seen, recOf, Tied, rec-on, Hit, isTicketNamed, isWaitingOf, hit-named, hit-slot, miss-named, hit-ticket, miss-ticket, hit-waiting, ticket-kind, waiting-kind, named-kind}
-use Rattle.account.proofs.Tables.{put-slots, tied-none, tied-remove, tied-removed, some-slot, spent-good, tied-pass}
+use Rattle.account.proofs.Tables.{put-slots, tied-none, tied-remove, tied-left, some-slot, left-good, tied-pass}
 use Rattle.account.proofs.Sessions.{end-some, end-none, tied-raise}
 use Rattle.account.proofs.Making.{new-text, new-ref, tied-login, tied-session, session-source, under-source, tied-under}
 use Rattle.account.proofs.Reached.{RightLine, OwesSettle, Reached}
@@ -59,16 +60,16 @@ module _ (start : ℕ) (h : List Item) (t : Table) (R : Reached start h t) where
       go : Case (eqb (slotNamed aLogin lt t) 0) → Tied (closeAll spent (isLine aLogin lt) L) (remove (slotNamed aLogin lt t) t)
       go (is z) =
           let e : slotNamed aLogin lt t ≡ 0 = eqb-true (slotNamed aLogin lt t) 0 z in
-          rw e (tied-same _ t (tied-none L t (R .tied) (isLine aLogin lt) spent refl (miss-named L t (R .tied) aLogin lt (omega arith) z)))
+          rw e (tied-same _ t (tied-none L t (R .tied) (isLine aLogin lt) spent refl (miss-named L t (R .tied) aLogin lt refl z)))
       go (isnt z) =
-          let x = hit-named L t (R .tied) aLogin lt (omega arith) z in
+          let x = hit-named L t (R .tied) aLogin lt refl z in
           let k = named-kind (L .clock) aLogin lt (on (R .tied .A) (slotNamed aLogin lt t) .r) (x .passes) in
           tied-remove L t (R .tied) (slotNamed aLogin lt t) (x .live) (λ e. omega arith) (λ e. omega arith) (isLine aLogin lt) spent refl (x .picked) (x .others)
 
   -- and it was live
   pub spend-live : (lt : Text) → eqb (slotNamed aLogin lt t) 0 ≡ false → loginLive start h lt ≡ true
   spend-live lt z =
-      let x = hit-named L t (R .tied) aLogin lt (omega arith) z in
+      let x = hit-named L t (R .tied) aLogin lt refl z in
       let e : Line = on (R .tied .A) (slotNamed aLogin lt t) .e in
       let s = seen (isLine aLogin lt) (L .book) e (x .line) in
       let w = both (eqb (e .kind) aLogin) (same (e .name) lt) (s .2) in
@@ -109,7 +110,7 @@ module _ (start : ℕ) (h : List Item) (t : Table) (R : Reached start h t) where
   reach-issue m s cookie named mark service random signed lt marked live =
       let w = R .tied in
       let n : isNamed (L .clock) aSession cookie (on (w .A) s .r) ≡ true = rw (w .clock-is, rec-on L t w s) at named in
-      let x = hit-slot L t w aSession cookie (omega arith) s n in
+      let x = hit-slot L t w aSession cookie refl s n in
       let k = named-kind (L .clock) aSession cookie (on (w .A) s .r) n in
       record {
         tied =
@@ -140,7 +141,7 @@ module _ (start : ℕ) (h : List Item) (t : Table) (R : Reached start h t) where
   reach-proxy m pgt e target random =
       let w = R .tied in
       let k : ℕ = slotNamed aGrant pgt t in
-      let x = hit-named L t w aGrant pgt (omega arith) e in
+      let x = hit-named L t w aGrant pgt refl e in
       let kind = named-kind (L .clock) aGrant pgt (on (w .A) k .r) (x .passes) in
       let g = w .sim .good k (x .live) in
       let u = under-of (w .A) (on (w .A) k) (g .placed) (omega arith) in
@@ -186,25 +187,22 @@ module _ (start : ℕ) (h : List Item) (t : Table) (R : Reached start h t) where
     is-ticket : isTicket (a .r .kind) ≡ true
     is-ticket = ticket-kind L t (R .tied) ticket (a .r) (hits .passes)
 
-    ticket-low : (k : ℕ) → isTicket k ≡ true → (3 ≤ k) × (k ≤ 4)
-    ticket-low k z = go (case (eqb k 3))
-      where
-        go : Case (eqb k 3) → (3 ≤ k) × (k ≤ 4)
-        go (is x) = let y = eqb-true k 3 x in (omega arith, omega arith)
-        go (isnt x) = let y : k ≡ 4 = eqb-true k 4 (rw x at z) in (omega arith, omega arith)
-
     low : 3 ≤ a .r .kind
-    low = ticket-low (a .r .kind) is-ticket .0
+    low = ticket-among (a .r .kind) is-ticket .0
 
     high : a .r .kind ≤ 4
-    high = ticket-low (a .r .kind) is-ticket .1
+    high = ticket-among (a .r .kind) is-ticket .1
 
-    removed : (F : Fate) → isHeld F ≡ false → (v : Tied (closeAll F (isTicketLine ticket) L) (remove k t)) × (v .A ≡ set (R .tied .A) k noSlot) × (v .n ≡ R .tied .n)
-    removed F hF = tied-removed L t (R .tied) k (hits .live) (λ x. omega (arith, low, high)) (λ x. omega (arith, low, high)) (isTicketLine ticket) F hF (hits .picked) (hits .others)
+    no-session : a .r .kind ≢ 2
+    no-session x = omega (arith, low)
+
+    no-grant : a .r .kind ≢ 6
+    no-grant x = omega (arith, high)
 
     pub reach-burn : Reached start (Burnt ticket ∷ h) (remove (ticketSlot ticket t) t)
     unfolding notebook note
-    reach-burn = record { tied = removed burnt refl .0; paid = (tt, R .paid) }
+    reach-burn =
+        record { tied = tied-remove L t (R .tied) k (hits .live) no-session no-grant (isTicketLine ticket) burnt refl (hits .picked) (hits .others); paid = (tt, R .paid) }
 
     -- accepted: the line's text, mark and kind are the record's
     pub right-line : (v : Validator) (renew : Bool) (service : Text) → (eqb (recAt k (t .slots) .kind) aProxy ≡ true → takesProxies v ≡ true)
@@ -223,86 +221,87 @@ module _ (start : ℕ) (h : List Item) (t : Table) (R : Reached start h t) where
         marked-line true z = refl
         marked-line false z = absurd (clash refl z)
 
-    -- the records of the table without it
-    rec-after : (j : ℕ) → recAt j (putAt k freeRec (t .slots)) ≡ on (set (R .tied .A) k noSlot) j .r
-    rec-after j =
-        ap (λ (l : List Rec). getD l j freeRec) (put-slots (t .slots) (R .tied .A) k noSlot (R .tied .slots-are) (some-slot L t (R .tied) k (hits .live) (λ x. omega (arith, low, high)) (λ x. omega (arith, low, high))))
-        ∙ List·getD-map recOf (set (R .tied .A) k noSlot) j noSlot
+    -- the table in which it has left x, which has no line
+    module _ (x : Rec) (dead : alive (L .clock) x ≡ false) where
+      abbrev A′ : List Slot
+      A′ = set (R .tied .A) k (bare x)
 
-    sim-after : (F : Fate) → isHeld F ≡ false → Sim (closeAll F (isTicketLine ticket) L) (set (R .tied .A) k noSlot) (R .tied .n)
-    sim-after F hF = let v = removed F hF in rw (v .1, v .2) at (v .0 .sim)
+      abbrev t′ : Table
+      t′ = put k x t
 
-    under-after : Under (set (R .tied .A) k noSlot) a
-    under-after =
-        under-of (set (R .tied .A) k noSlot) a (spent-good L t (R .tied) k (hits .live) (λ x. omega (arith, low, high)) (λ x. omega (arith, low, high)) .placed) low
+      left : (v : Tied (closeAll accepted (isTicketLine ticket) L) t′) × (v .A ≡ A′) × (v .n ≡ R .tied .n)
+      left = tied-left L t (R .tied) k (hits .live) no-session no-grant x dead (isTicketLine ticket) accepted refl (hits .picked) (hits .others)
 
-    pub welcome-is : recAt (recAt k (t .slots) .session) (putAt k freeRec (t .slots)) .text ≡ a .e .user
-    unfolding closeAll
-    welcome-is =
-        rw (rec-on L t (R .tied) k)
-        (user-ok _ (set (R .tied .A) k noSlot) (R .tied .n) (sim-after accepted refl) (putAt k freeRec (t .slots)) rec-after a under-after (alive-time (L .clock) (a .r) (hits .live)))
+      rec-after : (j : ℕ) → recAt j (t′ .slots) ≡ on A′ j .r
+      rec-after j =
+          ap (λ (l : List Rec). getD l j freeRec) (put-slots (t .slots) (R .tied .A) k (bare x) (R .tied .slots-are) (some-slot L t (R .tied) k (hits .live) no-session no-grant))
+          ∙ List·getD-map recOf A′ j noSlot
 
-    pub since-told : recAt (recAt k (t .slots) .session) (putAt k freeRec (t .slots)) .since ≡ a .e .since
-    unfolding closeAll
-    since-told =
-        rw (rec-on L t (R .tied) k)
-        (since-ok _ (set (R .tied .A) k noSlot) (R .tied .n) (sim-after accepted refl) (putAt k freeRec (t .slots)) rec-after a under-after (alive-time (L .clock) (a .r) (hits .live)))
+      sim-after : Sim (closeAll accepted (isTicketLine ticket) L) A′ (R .tied .n)
+      sim-after = let v = left in rw (v .1, v .2) at (v .0 .sim)
 
-    pub mark-told : recAt k (t .slots) .mark ≡ one (a .e .mark)
-    mark-told = rw (rec-on L t (R .tied) k) (R .tied .sim .good k (hits .live) .mark-eq (omega (arith, high)))
+      under-after : Under A′ a
+      under-after = under-of A′ a (left-good L t (R .tied) k (hits .live) no-session no-grant x dead .placed) low
 
-    pub chain-told : chainOf (proxyParent (recAt k (t .slots))) (putAt k freeRec (t .slots)) ≡ a .e .chain
-    unfolding closeAll
-    chain-told =
-        rw (rec-on L t (R .tied) k)
-        (chain-ok _ (set (R .tied .A) k noSlot) (R .tied .n) (sim-after accepted refl) (putAt k freeRec (t .slots)) rec-after a under-after (alive-time (L .clock) (a .r) (hits .live))
-        (proxyParent (a .r)) (ticket-up (a .r) is-ticket))
+      pub welcome-is : recAt (recAt k (t .slots) .session) (t′ .slots) .text ≡ a .e .user
+      unfolding closeAll
+      welcome-is = rw (rec-on L t (R .tied) k) (user-ok _ A′ (R .tied .n) sim-after (t′ .slots) rec-after a under-after (alive-time (L .clock) (a .r) (hits .live)))
 
-    pub reach-welcome : (v : Validator) (renew : Bool) (service said : Text) → RightLine v renew service (a .e)
-        → said ≡ if (isPlain v) (ascii "yes\n") (successText (a .e .user) (a .e .since) (recAt k (t .slots) .mark) [] (chainOf (proxyParent (recAt k (t .slots))) (putAt k freeRec (t .slots))))
-        → Reached start (Welcomed v renew ticket service said ∷ h) (remove (ticketSlot ticket t) t)
-    unfolding notebook note
-    reach-welcome v renew service said right bytes =
-        record {
-          tied = removed accepted refl .0;
-          paid = (record { ticket-line = a .e; line = hits .line; right = right; bytes = rw (chain-told, mark-told) at bytes }, R .paid);
-        }
+      pub since-told : recAt (recAt k (t .slots) .session) (t′ .slots) .since ≡ a .e .since
+      unfolding closeAll
+      since-told = rw (rec-on L t (R .tied) k) (since-ok _ A′ (R .tied .n) sim-after (t′ .slots) rec-after a under-after (alive-time (L .clock) (a .r) (hits .live)))
 
-    abbrev t′ : Table
-    t′ = remove k t
+      mark-told : recAt k (t .slots) .mark ≡ one (a .e .mark)
+      mark-told = rw (rec-on L t (R .tied) k) (R .tied .sim .good k (hits .live) .mark-eq (omega (arith, high)))
 
-    abbrev waiting : List ℕ → List ℕ → Rec
-    waiting url random =
-        newRec aWaiting (recAt k (t .slots) .mark) (proxyParent (recAt k (t .slots))) (recAt k (t .slots) .session) (recAt (proxyParent (recAt k (t .slots))) (t′ .slots) .depth + 1) url random t′
+      chain-told : chainOf (proxyParent (recAt k (t .slots))) (t′ .slots) ≡ a .e .chain
+      unfolding closeAll
+      chain-told =
+          rw (rec-on L t (R .tied) k)
+          (chain-ok _ A′ (R .tied .n) sim-after (t′ .slots) rec-after a under-after (alive-time (L .clock) (a .r) (hits .live)) (proxyParent (a .r)) (ticket-up (a .r) is-ticket))
 
-    pub reach-callback : Room t′ → (v : Validator) (renew : Bool) (service url random : Text) → RightLine v renew service (a .e)
-        → Reached start (CalledBack v renew ticket service url (nameOf (waiting url random)) (iouText (waiting url random .iou)) (waiting url random .serial) ∷ h) (add (waiting url random) t′)
-    unfolding notebook note newRec closeAll
-    reach-callback m v renew service url random right =
-        let w = R .tied in
-        let d = removed accepted refl in
-        let u : Under (d .0 .A) a = rw (d .1) under-after in
-        let live : L .clock < a .r .expiry = alive-time (L .clock) (a .r) (hits .live) in
-        let rec : (j : ℕ) → recAt j (t′ .slots) ≡ on (d .0 .A) j .r = rw (d .1) rec-after in
-        let up = ticket-up (a .r) is-ticket in
-        record {
-          tied =
-              rw (hits .line, rec-on L t w k)
-              (tied-under (closeAll accepted (isTicketLine ticket) L) t′ (d .0) m (a .r .session) (home-lives (L .clock) (d .0 .A) a u live) (a .e) (under-source (d .0 .A) a u)
-              aWaiting (a .r .mark) (proxyParent (a .r)) (recAt (proxyParent (a .r)) (t′ .slots) .depth + 1) url random (a .e .chain) (a .e .mark) (t .next) (a .e .name) (iouText (iouFrom aWaiting random))
-              (omega arith) (omega arith) (omega arith) (w .sim .good k (hits .live) .mark-eq (omega (arith, high))) (λ z. refl) (omega arith) (λ z. refl) (rw up (u .line))
-              (λ z. rw up (depth-ok _ (d .0 .A) (d .0 .n) (d .0 .sim) (t′ .slots) rec a u live (upOf (a .r)) refl)));
-          paid = (
-            record {
-              ticket-line = a .e;
-              line = hits .line;
-              right = right;
-              new = new-text L t w (m .serial) (waiting url random) refl (omega arith) (omega arith);
-              new-ref = new-ref L t w (m .serial);
-            },
-            R .paid,
-          );
-        }
+      pub reach-welcome : (v : Validator) (renew : Bool) (service said : Text) → RightLine v renew service (a .e)
+          → said ≡ if (isPlain v) (ascii "yes\n") (successText (a .e .user) (a .e .since) (recAt k (t .slots) .mark) [] (chainOf (proxyParent (recAt k (t .slots))) (t′ .slots)))
+          → Reached start (Welcomed v renew ticket service said ∷ h) t′
+      unfolding notebook note
+      reach-welcome v renew service said right bytes =
+          record {
+            tied = left .0;
+            paid = (record { ticket-line = a .e; line = hits .line; right = right; bytes = rw (chain-told, mark-told) at bytes }, R .paid);
+          }
+
+      abbrev waiting : List ℕ → List ℕ → Rec
+      waiting url random =
+          newRec aWaiting (recAt k (t .slots) .mark) (proxyParent (recAt k (t .slots))) (recAt k (t .slots) .session) (recAt (proxyParent (recAt k (t .slots))) (t′ .slots) .depth + 1) url random t′
+
+      pub reach-callback : Room t′ → (v : Validator) (renew : Bool) (service url random : Text) → RightLine v renew service (a .e)
+          → Reached start (CalledBack v renew ticket service url (nameOf (waiting url random)) (iouText (waiting url random .iou)) (waiting url random .serial) ∷ h) (add (waiting url random) t′)
+      unfolding notebook note newRec closeAll
+      reach-callback m v renew service url random right =
+          let w = R .tied in
+          let d = left in
+          let u : Under (d .0 .A) a = rw (d .1) under-after in
+          let live : L .clock < a .r .expiry = alive-time (L .clock) (a .r) (hits .live) in
+          let rec : (j : ℕ) → recAt j (t′ .slots) ≡ on (d .0 .A) j .r = rw (d .1) rec-after in
+          let up = ticket-up (a .r) is-ticket in
+          record {
+            tied =
+                rw (hits .line, rec-on L t w k)
+                (tied-under (closeAll accepted (isTicketLine ticket) L) t′ (d .0) m (a .r .session) (home-lives (L .clock) (d .0 .A) a u live) (a .e) (under-source (d .0 .A) a u)
+                aWaiting (a .r .mark) (proxyParent (a .r)) (recAt (proxyParent (a .r)) (t′ .slots) .depth + 1) url random (a .e .chain) (a .e .mark) (t .next) (a .e .name) (iouText (iouFrom aWaiting random))
+                (omega arith) (omega arith) (omega arith) (w .sim .good k (hits .live) .mark-eq (omega (arith, high))) (λ z. refl) (omega arith) (λ z. refl) (rw up (u .line))
+                (λ z. rw up (depth-ok _ (d .0 .A) (d .0 .n) (d .0 .sim) (t′ .slots) rec a u live (upOf (a .r)) refl)));
+            paid = (
+              record {
+                ticket-line = a .e;
+                line = hits .line;
+                right = right;
+                new = new-text L t w (m .serial) (waiting url random) refl (omega arith) (omega arith);
+                new-ref = new-ref L t w (m .serial);
+              },
+              R .paid,
+            );
+          }
 
   -- The callback of a serial is settled
   module _ (serial : ℕ) (e : eqb (waitingSlot serial t) 0 ≡ false) where
@@ -336,7 +335,7 @@ module _ (start : ℕ) (h : List Item) (t : Table) (R : Reached start h t) where
         record { waiting-line = b .e; line = waits .line; bytes = rw (r, user, since, mark, chain, ← iou) at bytes }
 
     pub reach-granted : (said : Text) → OwesSettle start h serial true said
-        → Reached start (Settled serial true said ∷ h) (put (waitingSlot serial t) (granted (recAt (waitingSlot serial t) (t .slots)) (t .slots)) t)
+        → Reached start (Settled serial true said ∷ h) (put (waitingSlot serial t) (turned aGrant (recAt (waitingSlot serial t) (t .slots)) (t .slots)) t)
     unfolding notebook note
     reach-granted said owes = record { tied = tied-raise L t (R .tied) serial e; paid = (owes, R .paid) }
 

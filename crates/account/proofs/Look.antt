@@ -5,11 +5,11 @@ use mathlib.Core.Bool.{Bool, true, false, _&&_, _||_}
 use mathlib.Core.List.{List, [], _∷_, map, List·Memᴰ, List·Memᴰ·head, List·Memᴰ·tail}
 use Prim.Native.Nat.{ℕ, zero, suc, _+_, _%_, _≤_, _<_}
 use native.Mathlib.Omega.{arith}
-use borrow.Author.Tests.{eqb-true, lt-ltb, ltb-true}
+use borrow.Author.Tests.{eqb-true, lt-ltb}
 use lib.ListN.{length, getD, List·getD-map, length-map}
 use lib.Dec.{ltb, eqb}
-use Rattle.protocol.specs.Bytes.{same}
-use Rattle.protocol.specs.Tickets.{aService, aProxy, aWaiting}
+use Rattle.protocol.specs.Bytes.{same, within}
+use Rattle.protocol.specs.Tickets.{aLogin, aService, aProxy, aWaiting, aGrant}
 use Rattle.protocol.specs.Records.{Rec, freeRec, nameOf, live}
 use Rattle.protocol.specs.Table.{Table, recAt, slotFrom, slotWhere}
 use Rattle.protocol.specs.Steps.{isNamed, slotNamed, ticketSlot, waitingSlot}
@@ -19,7 +19,7 @@ use Rattle.account.specs.History.{Text}
 use Rattle.account.specs.Notebook.{Line, Notebook, isHeld, found, nothing, look, isLine, isTicket, isTicketLine, isWaitingLine}
 use Rattle.account.proofs.Base.{Case, is, isnt, case, clash, untrue, and-yes, or-left, or-right, when, name-serial}
 use Rattle.account.proofs.Sim.{Slot, noSlot, on, alive, lives, weight, weigh, heft, total, Sim}
-use Rattle.account.proofs.Edits.{alive-kind, alive-time, alive-is}
+use Rattle.account.proofs.Edits.{alive-kind, alive-time}
 
 abbrev pub recOf : Slot → Rec
 recOf a = a .r
@@ -180,8 +180,10 @@ unfolding nameOf
 same-name L A n S i j li lj e =
     let g = S .good i li in
     let h = S .good j lj in
+    let k = alive-kind (L .clock) (on A i .r) li in
+    let l = alive-kind (L .clock) (on A j .r) lj in
     name-serial (on A i .r .kind) (on A j .r .kind) (on A i .r .serial) (on A j .r .serial) (on A i .r .secret) (on A j .r .secret)
-    (alive-kind (L .clock) (on A i .r) li) (g .kind-most) (alive-kind (L .clock) (on A j .r) lj) (h .kind-most)
+    (k .0) (k .1) (l .0) (l .1)
     (omega (arith, g .young, S .top)) (omega (arith, h .young, S .top))
     (sym (g .name-eq) ∙ e ∙ h .name-eq)
 
@@ -204,30 +206,29 @@ module _ (L : Notebook) (t : Table) (w : Tied L t) where
   unfolding isNamed
   named-agree kind text i l = rw (w .sim .good i l .kind-eq, w .sim .good i l .name-eq, fresh i l, and-yes (eqb (on (w .A) i .r .kind) kind))
 
-  named-sub : (kind : ℕ) (text : Text) → 1 ≤ kind → (r : Rec) → isNamed (L .clock) kind text r ≡ true → alive (L .clock) r ≡ true
+  named-sub : (kind : ℕ) (text : Text) → within aLogin aGrant kind ≡ true → (r : Rec) → isNamed (L .clock) kind text r ≡ true → alive (L .clock) r ≡ true
   unfolding isNamed
   named-sub kind text k r e =
       let p = both (eqb (r .kind) kind && live (L .clock) r) (same (nameOf r) text) e in
       let q = both (eqb (r .kind) kind) (live (L .clock) r) (p .0) in
-      let x = eqb-true (r .kind) kind (q .0) in
-      alive-is (L .clock) r (omega arith) (ltb-true (L .clock) (r .expiry) (q .1))
+      rw (eqb-true (r .kind) kind (q .0), k, q .1)
 
   named-only : (kind : ℕ) (text : Text) (i j : ℕ) → lives (L .clock) (w .A) i ≡ true → lives (L .clock) (w .A) j ≡ true
       → isLine kind text (on (w .A) i .e) ≡ true → isLine kind text (on (w .A) j .e) ≡ true → on (w .A) i .r .serial ≡ on (w .A) j .r .serial
   named-only kind text i j li lj p q =
       same-name L (w .A) (w .n) (w .sim) i j li lj (and-same (eqb (on (w .A) i .e .kind) kind) (eqb (on (w .A) j .e .kind) kind) (on (w .A) i .e .name) (on (w .A) j .e .name) text p q)
 
-  pub hit-named : (kind : ℕ) (text : Text) → 1 ≤ kind → eqb (slotNamed kind text t) 0 ≡ false → Hit L (w .A) (slotNamed kind text t) (isNamed (L .clock) kind text) (isLine kind text)
+  pub hit-named : (kind : ℕ) (text : Text) → within aLogin aGrant kind ≡ true → eqb (slotNamed kind text t) 0 ≡ false → Hit L (w .A) (slotNamed kind text t) (isNamed (L .clock) kind text) (isLine kind text)
   unfolding slotNamed
   hit-named kind text k e =
       rw (w .clock-is)
       (hit L t w (isNamed (L .clock) kind text) (isLine kind text) (named-agree kind text) (named-sub kind text k) (named-only kind text) (rw (w .clock-is) at e))
 
   -- a live slot that is so named
-  pub hit-slot : (kind : ℕ) (text : Text) → 1 ≤ kind → (k : ℕ) → isNamed (L .clock) kind text (on (w .A) k .r) ≡ true → Hit L (w .A) k (isNamed (L .clock) kind text) (isLine kind text)
+  pub hit-slot : (kind : ℕ) (text : Text) → within aLogin aGrant kind ≡ true → (k : ℕ) → isNamed (L .clock) kind text (on (w .A) k .r) ≡ true → Hit L (w .A) k (isNamed (L .clock) kind text) (isLine kind text)
   hit-slot kind text le k h = hit-at L t w (isNamed (L .clock) kind text) (isLine kind text) (named-agree kind text) (named-sub kind text le) (named-only kind text) k h
 
-  pub miss-named : (kind : ℕ) (text : Text) → 1 ≤ kind → eqb (slotNamed kind text t) 0 ≡ true → Miss L (w .A) (isLine kind text)
+  pub miss-named : (kind : ℕ) (text : Text) → within aLogin aGrant kind ≡ true → eqb (slotNamed kind text t) 0 ≡ true → Miss L (w .A) (isLine kind text)
   unfolding slotNamed
   miss-named kind text k e =
       miss L t w (isNamed (L .clock) kind text) (isLine kind text) (named-agree kind text) (named-sub kind text k) (named-only kind text) (rw (w .clock-is) at e)
@@ -251,8 +252,8 @@ module _ (L : Notebook) (t : Table) (w : Tied L t) where
   ticket-sub text r e = go (case (isNamed (L .clock) aService text r))
     where
       go : Case (isNamed (L .clock) aService text r) → alive (L .clock) r ≡ true
-      go (is z) = named-sub aService text (omega arith) r z
-      go (isnt z) = named-sub aProxy text (omega arith) r (rw z at e)
+      go (is z) = named-sub aService text refl r z
+      go (isnt z) = named-sub aProxy text refl r (rw z at e)
 
   ticket-only : (text : Text) (i j : ℕ) → lives (L .clock) (w .A) i ≡ true → lives (L .clock) (w .A) j ≡ true
       → isTicketLine text (on (w .A) i .e) ≡ true → isTicketLine text (on (w .A) j .e) ≡ true → on (w .A) i .r .serial ≡ on (w .A) j .r .serial
@@ -280,8 +281,7 @@ module _ (L : Notebook) (t : Table) (w : Tied L t) where
   waiting-sub serial r e =
       let p = both (eqb (r .kind) aWaiting && live (L .clock) r) (eqb (r .serial) serial) e in
       let q = both (eqb (r .kind) aWaiting) (live (L .clock) r) (p .0) in
-      let x = eqb-true (r .kind) 5 (q .0) in
-      alive-is (L .clock) r (omega arith) (ltb-true (L .clock) (r .expiry) (q .1))
+      rw (eqb-true (r .kind) 5 (q .0), q .1)
 
   waiting-ref : (serial : ℕ) (i : ℕ) → lives (L .clock) (w .A) i ≡ true → isWaitingLine serial (on (w .A) i .e) ≡ true → on (w .A) i .r .serial ≡ serial
   waiting-ref serial i l e =

@@ -52,10 +52,9 @@ tied-login L t w m random =
     let i = serial-is L t w (m .serial) in
     let r : Rec = newRec aLogin 0 0 0 0 [] random t in
     let a : Slot = record { r = r; e = loginLine (nameOf r) (L .clock) } in
-    tied-add L t w m a (alive-is (L .clock) r (omega arith) (omega (arith, w .clock-is))) (i .0) (omega arith)
+    tied-add L t w m a (alive-is (L .clock) r (omega arith, omega arith) (omega (arith, w .clock-is))) (i .0) (omega arith)
     (record {
       kind-eq = refl;
-      kind-most = omega arith;
       name-eq = refl;
       ref-eq = λ x. absurd (omega arith);
       iou-eq = λ x. absurd (omega arith);
@@ -75,10 +74,9 @@ tied-session L t w m user random =
     let i = serial-is L t w (m .serial) in
     let r : Rec = newRec aSession 0 0 0 0 user random t in
     let a : Slot = record { r = r; e = sessionLine (nameOf r) user (L .clock) } in
-    tied-add L t w m a (alive-is (L .clock) r (omega arith) (omega (arith, w .clock-is))) (i .0) (omega arith)
+    tied-add L t w m a (alive-is (L .clock) r (omega arith, omega arith) (omega (arith, w .clock-is))) (i .0) (omega arith)
     (record {
       kind-eq = refl;
-      kind-most = omega arith;
       name-eq = refl;
       ref-eq = λ x. absurd (omega arith);
       iou-eq = λ x. absurd (omega arith);
@@ -128,7 +126,6 @@ module _ (L : Notebook) (t : Table) (w : Tied L t) (m : Room t) (s : ℕ) (ls : 
       let i = serial-is L t w (m .serial) in
       record {
         kind-eq = refl;
-        kind-most = omega arith;
         name-eq = refl;
         ref-eq = numbered;
         iou-eq = owes;
@@ -157,4 +154,4 @@ module _ (L : Notebook) (t : Table) (w : Tied L t) (m : Room t) (s : ℕ) (ls : 
   tied-under =
       let i = serial-is L t w (m .serial) in
       tied-add L t w m (record { r = newRec kind mark parent s depth text random t; e = lineUnder kind (nameOf (newRec kind mark parent s depth text random t)) ref text chain mk origin iou (L .clock) src })
-      (alive-is (L .clock) (newRec kind mark parent s depth text random t) (omega arith) (omega (arith, expiry-is, alive-time (L .clock) (on (w .A) s .r) ls))) (i .0) (omega arith) under-good
+      (alive-is (L .clock) (newRec kind mark parent s depth text random t) (omega arith, omega arith) (omega (arith, expiry-is, alive-time (L .clock) (on (w .A) s .r) ls))) (i .0) (omega arith) under-good

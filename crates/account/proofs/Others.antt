@@ -12,7 +12,7 @@ use Rattle.protocol.specs.Table.{Table, recAt}
 use Rattle.protocol.specs.Register.{registered, decodeRegister}
 use Rattle.protocol.specs.Request.{malformed, proxyNames, logoutNames, fromQuery, queryPart}
 use Rattle.protocol.specs.Answers.{Code, InvalidRequest, BadPgt, UnauthorizedService, InternalError, ErrorPage, ProxySuccess, ProxyFailure, replyText, replyAnswer}
-use Rattle.protocol.specs.Steps.{Brought, Step, step, sessionOf, endSession, slotNamed, roomFor, newRec, proxyWith, proxyBy, proxy, logout, ticketSlot, waitingSlot, failed, acceptTicket, judgeTicket, presented, validate, finished, finishAt, finish, requestStep}
+use Rattle.protocol.specs.Steps.{Brought, Step, step, sessionOf, endSession, slotNamed, roomFor, newRec, proxyWith, proxyBy, proxy, logout, ticketSlot, waitingSlot, failed, leftBy, acceptTicket, judgeTicket, presented, validate, finished, finishAt, finish, requestStep}
 use Rattle.protocol.specs.declared.Method.{Method}
 use Rattle.protocol.specs.declared.Method.the-variants as method
 use Rattle.protocol.specs.declared.Path.{Path}
@@ -20,7 +20,7 @@ use Rattle.protocol.specs.declared.Path.the-variants as path
 use Rattle.protocol.specs.declared.Validator.{Validator}
 use Rattle.protocol.proofs.Added.{Room, room-one}
 use Rattle.account.specs.History.{Text, Asked, Told}
-use Rattle.account.specs.Clauses.{outOfPlace, unsigned, meant, burntAt, userOf, sinceOf, accepting, judging, raisedAt, settling}
+use Rattle.account.specs.Clauses.{outOfPlace, unsigned, meant, burntAt, leftAt, userOf, sinceOf, accepting, judging, raisedAt, settling}
 use Rattle.account.specs.Reading.{Item, Ended, Proxied, badRequest, readValidator, readProxy, readFinish, readGet, readPost, readAsked}
 use Rattle.account.proofs.Base.{fork}
 use Rattle.account.proofs.Reached.{Reached}
@@ -83,7 +83,7 @@ module _ (start : ℕ) (h : List Item) (t : Table) (R : Reached start h t) (a : 
 
 -- the clauses of validators and finish are protocol's
 presented-is : (v : Validator) (k : ℕ) (q : Text) (g : Brought) (t : Table) → presented v k q g t ≡ judging v k q g t
-unfolding presented judgeTicket acceptTicket judging accepting outOfPlace unsigned meant burntAt userOf sinceOf
+unfolding presented judgeTicket acceptTicket leftBy judging accepting outOfPlace unsigned meant burntAt leftAt userOf sinceOf
 presented-is v k q g t = refl
 
 finish-is : (k : ℕ) (r : Rec) (outcome : Bool) (t : Table) → finishAt k r outcome t ≡ settling k r outcome t

@@ -1,24 +1,26 @@
 -- What each clause gives the account: the facts that a wrong clause would break. Assumes nothing.
-use mathlib.Core.Path.{_≡_, refl}
+use mathlib.Core.Path.{_≡_, refl, ap}
 use mathlib.Core.Bool.{Bool, true, false}
 use mathlib.Core.List.{List, [], _∷_}
 use Prim.Native.Nat.{ℕ}
 use lib.Dec.{eqb}
 use Rattle.protocol.specs.Bytes.{if}
-use Rattle.protocol.specs.Tickets.{aProxy, iouText}
-use Rattle.protocol.specs.Records.{Rec}
-use Rattle.protocol.specs.Table.{Table, recAt}
+use Rattle.protocol.specs.Tickets.{aService, aProxy, iouText}
+use Rattle.protocol.specs.Records.{Rec, freeRec}
+use Rattle.protocol.specs.Table.{Table, tableOf, recAt}
 use Rattle.protocol.specs.Answers.{successText}
-use Rattle.protocol.specs.Steps.{remove, sessionOf, ticketSlot, waitingSlot, chainOf, takesProxies}
+use Rattle.protocol.specs.Steps.{put, remove, turned, sessionOf, ticketSlot, waitingSlot, chainOf, takesProxies}
 use Rattle.protocol.specs.declared.Validator.{Validator}
 use Rattle.protocol.specs.declared.Validator.the-variants as validator
 use Rattle.protocol.proofs.Laws.{same-eq}
+use Rattle.protocol.proofs.TicketSound.{put-twice}
 use Rattle.account.specs.History.{Text}
-use Rattle.account.specs.Clauses.{outOfPlace, unsigned, meant, burntAt, userOf, sinceOf, raisedAt, keptMark, keptAt, changedAt}
+use Rattle.account.specs.Clauses.{outOfPlace, unsigned, meant, burntAt, leftAt, userOf, sinceOf, raisedAt, keptMark, keptAt, changedAt}
 use Rattle.account.specs.Reading.{Item, Ended, Burnt, Settled}
+use Rattle.account.specs.Notebook.{notebook}
 use Rattle.account.specs.Account.{one}
-use Rattle.account.proofs.Base.{clash}
-use Rattle.account.proofs.Sim.{on}
+use Rattle.account.proofs.Base.{clash, fork}
+use Rattle.account.proofs.Sim.{on, alive}
 use Rattle.account.proofs.Reached.{Reached, OwesSettle}
 use Rattle.account.proofs.Items.{reach-burn, reach-end, reach-granted, welcome-is, since-told, settle-owes}
 
@@ -55,19 +57,33 @@ pub kept-whole : (s : ℕ) (t : Table) → keptAt s t ≡ t
 unfolding keptAt
 kept-whole s t = refl
 
+-- an accepted ticket leaves in its slot what has no line
+pub record Left (c k : ℕ) (t u : Table) : Type 0 where
+  pub rest : Rec
+  pub dead : alive c rest ≡ false
+  pub table-is : u ≡ put k rest t
+
+pub accepted-left : (c k : ℕ) (r : Rec) (t : Table) → Left c k t (leftAt k r (remove k t))
+unfolding leftAt turned
+accepted-left c k r t = fork (λ (u : Table). Left c k t u) (eqb (r .kind) aService) (λ e. by _ refl) (λ e. record { rest = freeRec; dead = refl; table-is = refl })
+  where
+    by : (x : Rec) → alive c x ≡ false → Left c k t (put k x (remove k t))
+    by x d = record { rest = x; dead = d; table-is = ap (tableOf (t .clock) (t .next)) (put-twice (t .slots) k x freeRec) }
+
 -- a ticket that is shown and not accepted is burnt, and a success names the line's user and sign-on time
 module _ (start : ℕ) (h : List Item) (t : Table) (R : Reached start h t) (ticket : Text) (e : eqb (ticketSlot ticket t) 0 ≡ false) where
   pub reach-burnt : Reached start (Burnt ticket ∷ h) (burntAt (ticketSlot ticket t) t)
   unfolding burntAt
   reach-burnt = reach-burn start h t R ticket e
 
-  pub names-user : userOf (recAt (ticketSlot ticket t) (t .slots)) (remove (ticketSlot ticket t) t) ≡ on (R .tied .A) (ticketSlot ticket t) .e .user
-  unfolding userOf
-  names-user = welcome-is start h t R ticket e
+  module _ (x : Rec) (dead : alive (notebook start h .clock) x ≡ false) where
+    pub names-user : userOf (recAt (ticketSlot ticket t) (t .slots)) (put (ticketSlot ticket t) x t) ≡ on (R .tied .A) (ticketSlot ticket t) .e .user
+    unfolding userOf
+    names-user = welcome-is start h t R ticket e x dead
 
-  pub names-since : sinceOf (recAt (ticketSlot ticket t) (t .slots)) (remove (ticketSlot ticket t) t) ≡ on (R .tied .A) (ticketSlot ticket t) .e .since
-  unfolding sinceOf
-  names-since = since-told start h t R ticket e
+    pub names-since : sinceOf (recAt (ticketSlot ticket t) (t .slots)) (put (ticketSlot ticket t) x t) ≡ on (R .tied .A) (ticketSlot ticket t) .e .since
+    unfolding sinceOf
+    names-since = since-told start h t R ticket e x dead
 
 -- a waiting grant that is settled waits no more, and the answer names its user and sign-on time
 module _ (start : ℕ) (h : List Item) (t : Table) (R : Reached start h t) (serial : ℕ) (e : eqb (waitingSlot serial t) 0 ≡ false) where

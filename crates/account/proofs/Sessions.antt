@@ -14,7 +14,7 @@ use Rattle.protocol.specs.Bytes.{same, zeros}
 use Rattle.protocol.specs.Tickets.{ticketText, aLogin, aSession, aGrant}
 use Rattle.protocol.specs.Records.{Rec, freeRec, nameOf, live}
 use Rattle.protocol.specs.Table.{Table, recAt}
-use Rattle.protocol.specs.Steps.{put, endRec, endSession, sessionOf, granted, waitingSlot}
+use Rattle.protocol.specs.Steps.{put, endRec, endSession, sessionOf, turned, waitingSlot}
 use Rattle.protocol.proofs.Laws.{same-eq, same-refl}
 use Rattle.account.specs.History.{Text}
 use Rattle.account.specs.Notebook.{ended, Notebook, closeAll, raise, raiseLine, raiseAll, nothing, look, isLine, isWaitingLine, ofSession}
@@ -152,7 +152,7 @@ module _ (L : Notebook) (t : Table) (w : Tied L t) (s : ℕ) (ls : lives (L .clo
 module _ (L : Notebook) (t : Table) (w : Tied L t) (cookie : Text) where
   pub end-some : eqb (sessionOf cookie t) 0 ≡ false → Tied (closeAll ended (ofSession cookie) L) (endSession (sessionOf cookie t) t)
   end-some e =
-      let h = hit-named L t w aSession cookie (omega arith) e in
+      let h = hit-named L t w aSession cookie refl e in
       let n = named-name (L .clock) aSession cookie (on (w .A) (sessionOf cookie t) .r) (h .passes) in
       rw n at (tied-ended L t w (sessionOf cookie t) (h .live) (named-kind (L .clock) aSession cookie (on (w .A) (sessionOf cookie t) .r) (h .passes)))
 
@@ -160,7 +160,7 @@ module _ (L : Notebook) (t : Table) (w : Tied L t) (cookie : Text) where
   end-none e = tied-none L t w (ofSession cookie) ended refl (record { line = look-all; all = all })
     where
       m : Miss L (w .A) (isLine aSession cookie)
-      m = miss-named L t w aSession cookie (omega arith) e
+      m = miss-named L t w aSession cookie refl e
 
       -- no live session has that text, so nothing stands under it
       unnamed : (j : ℕ) → lives (L .clock) (w .A) j ≡ true → on (w .A) j .r .kind ≡ 2 → same (nameOf (on (w .A) j .r)) cookie ≡ false
@@ -204,8 +204,8 @@ raised A r =
       since = r .since;
     }
 
-raised-is : (L : Notebook) (t : Table) (w : Tied L t) (k : ℕ) → granted (recAt k (t .slots)) (t .slots) ≡ raised (w .A) (on (w .A) k .r)
-unfolding granted raised
+raised-is : (L : Notebook) (t : Table) (w : Tied L t) (k : ℕ) → turned aGrant (recAt k (t .slots)) (t .slots) ≡ raised (w .A) (on (w .A) k .r)
+unfolding turned raised
 raised-is L t w k = rw (rec-on L t w k, rec-on L t w (on (w .A) k .r .session))
 
 module _ (A : List Slot) (n : ℕ) (a : Slot) (g : Good A n a) (k : a .r .kind ≡ 5) where
@@ -239,7 +239,6 @@ module _ (A : List Slot) (n : ℕ) (a : Slot) (g : Good A n a) (k : a .r .kind �
   raised-good =
       record {
         kind-eq = refl;
-        kind-most = omega arith;
         name-eq = g .name-eq ∙ grant-name (a .r) k;
         ref-eq = λ x. absurd (omega arith);
         iou-eq = λ x. absurd (omega arith);
@@ -253,14 +252,14 @@ module _ (A : List Slot) (n : ℕ) (a : Slot) (g : Good A n a) (k : a .r .kind �
 
   raised-alive : (c : ℕ) → c < a .r .expiry → alive c (grantSlot .r) ≡ true
   unfolding raised
-  raised-alive c h = alive-is c (raised A (a .r)) (omega arith) (omega (arith, waits-under .within))
+  raised-alive c h = alive-is c (raised A (a .r)) (omega arith, omega arith) (omega (arith, waits-under .within))
 
   raised-serial : grantSlot .r .serial ≡ a .r .serial
   unfolding raised
   raised-serial = refl
 
 pub tied-raise : (L : Notebook) (t : Table) (w : Tied L t) (serial : ℕ) → eqb (waitingSlot serial t) 0 ≡ false
-    → Tied (raiseAll (isWaitingLine serial) L) (put (waitingSlot serial t) (granted (recAt (waitingSlot serial t) (t .slots)) (t .slots)) t)
+    → Tied (raiseAll (isWaitingLine serial) L) (put (waitingSlot serial t) (turned aGrant (recAt (waitingSlot serial t) (t .slots)) (t .slots)) t)
 unfolding raiseAll
 tied-raise L t w serial e =
     let k : ℕ = waitingSlot serial t in

@@ -1,13 +1,14 @@
--- The link between the notebook and the table: the table's slots, slot 0 first, with the notebook's line beside each. Assumes nothing.
+-- The link between the notebook and the table: the table's slots, slot 0 first, with the notebook's line beside each;
+-- a free slot and a visit have none. Assumes nothing.
 use mathlib.Core.Path.{_≡_, refl, sym, ap, ap₂, _∙_}
-use mathlib.Core.Bool.{Bool, true, false, not, _&&_}
+use mathlib.Core.Bool.{Bool, true, false, _&&_}
 use mathlib.Core.List.{List, [], _∷_, map, List·Memᴰ, Memᴰ·of-map}
 use Prim.Native.Nat.{ℕ, zero, suc, _+_, _≤_, _<_}
 use native.Mathlib.Omega.{arith}
 use lib.ListN.{length, getD}
 use lib.Dec.{ltb, eqb}
-use Rattle.protocol.specs.Bytes.{if}
-use Rattle.protocol.specs.Tickets.{ticketText, iouText}
+use Rattle.protocol.specs.Bytes.{if, within}
+use Rattle.protocol.specs.Tickets.{aLogin, aGrant, ticketText, iouText}
 use Rattle.protocol.specs.Records.{Rec, freeRec, nameOf}
 use Rattle.account.specs.History.{Text}
 use Rattle.account.specs.Notebook.{held, Line, Notebook, isHeld}
@@ -21,15 +22,19 @@ pub record Slot : Type 0 where
 abbrev pub noLine : Line
 noLine = record { kind = 0; name = []; ref = 0; expiry = 0; session = []; until = 0; user = []; since = 0; text = []; chain = []; mark = false; origin = []; iou = []; fate = held }
 
+-- a record without a line: a free one, or a visit
+abbrev pub bare : Rec → Slot
+bare r = record { r = r; e = noLine }
+
 abbrev pub noSlot : Slot
-noSlot = record { r = freeRec; e = noLine }
+noSlot = bare freeRec
 
 abbrev pub on : List Slot → ℕ → Slot
 on A i = getD A i noSlot
 
--- a record that is not free and not expired
+-- a record that has a held line: not free, no visit, and not expired
 abbrev pub alive : ℕ → Rec → Bool
-alive c r = not (eqb (r .kind) 0) && ltb c (r .expiry)
+alive c r = within aLogin aGrant (r .kind) && ltb c (r .expiry)
 
 abbrev pub lives : ℕ → List Slot → ℕ → Bool
 lives c A i = alive c (on A i .r)
@@ -85,7 +90,6 @@ pub data Placed (A : List Slot) (a : Slot) : Type 0 where
 
 pub record Good (A : List Slot) (n : ℕ) (a : Slot) : Type 0 where
   pub kind-eq : a .e .kind ≡ a .r .kind
-  pub kind-most : a .r .kind ≤ 6
   pub name-eq : a .e .name ≡ nameOf (a .r)
   pub ref-eq : a .r .kind ≡ 5 → a .e .ref ≡ a .r .serial
   pub iou-eq : a .r .kind ≡ 5 → a .e .iou ≡ iouText (a .r .iou)
@@ -153,7 +157,6 @@ pub good-move : (A B : List Slot) (n m : ℕ) (a : Slot) → n ≤ m → (3 ≤ 
 good-move A B n m a le es ek g =
     record {
       kind-eq = g .kind-eq;
-      kind-most = g .kind-most;
       name-eq = g .name-eq;
       ref-eq = g .ref-eq;
       iou-eq = g .iou-eq;

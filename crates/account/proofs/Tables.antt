@@ -12,11 +12,11 @@ use lib.Seq.{getD-set-same, getD-set-other}
 use lib.Dec.{ltb, eqb}
 use Rattle.protocol.specs.Records.{Rec, freeRec}
 use Rattle.protocol.specs.Table.{Table, putAt}
-use Rattle.protocol.specs.Steps.{clearRec, tick, remove, slotFor, add}
+use Rattle.protocol.specs.Steps.{clearRec, tick, put, remove, slotFor, add}
 use Rattle.protocol.proofs.Added.{Room}
 use Rattle.account.specs.Notebook.{Fate, expired, Line, Notebook, isHeld, closeLine, closeAll, enter, pass}
 use Rattle.account.proofs.Base.{if-same, clash, and-not}
-use Rattle.account.proofs.Sim.{Slot, noLine, noSlot, on, alive, lives, upOf, Under, session, Good, Sim, good-move}
+use Rattle.account.proofs.Sim.{Slot, noLine, bare, noSlot, on, alive, lives, upOf, Under, session, Good, Sim, good-move}
 use Rattle.account.proofs.Edits.{alive-time, free-dead, under-of, home-lives, parent-lives, up-grants, sim-drop, sim-put, sim-time}
 use Rattle.account.proofs.Look.{recOf, Tied, live-inside, rec-on, size-is, zero-dead, Miss}
 
@@ -29,9 +29,6 @@ map-set (b ∷ A) (suc k) a = ap (λ (l : List Rec). b .r ∷ l) (map-set A k a)
 pub put-slots : (slots : List Rec) (A : List Slot) (k : ℕ) (a : Slot) → freeRec ∷ slots ≡ map recOf A → 1 ≤ k → freeRec ∷ putAt k (a .r) slots ≡ map recOf (set A k a)
 put-slots slots A zero a e h = absurd (omega arith)
 put-slots slots A (suc k) a e h = ap (λ (l : List Rec). set l (suc k) (a .r)) e ∙ map-set A (suc k) a
-
-dead-no : (c : ℕ) (a : Slot) → a ≡ noSlot → alive c (a .r) ≡ false
-dead-no c a e = rw e
 
 -- Where no live line is picked, closing changes nothing
 pub tied-none : (L : Notebook) (t : Table) (w : Tied L t) (q : Line → Bool) (F : Fate) → isHeld F ≡ false → Miss L (w .A) q → Tied (closeAll F q L) t
@@ -48,11 +45,8 @@ tied-none L t w q F hF m =
           (λ i k l u e z. refl);
     }
 
--- A live record that nothing names leaves its slot
+-- A live record that nothing names leaves its slot: to none, or to a visit
 module _ (L : Notebook) (t : Table) (w : Tied L t) (k : ℕ) (lk : lives (L .clock) (w .A) k ≡ true) (ns : on (w .A) k .r .kind ≢ 2) (ng : on (w .A) k .r .kind ≢ 6) where
-  spent : List Slot
-  spent = set (w .A) k noSlot
-
   pub some-slot : 1 ≤ k
   some-slot = go k lk
     where
@@ -60,60 +54,62 @@ module _ (L : Notebook) (t : Table) (w : Tied L t) (k : ℕ) (lk : lives (L .clo
       go zero l = absurd (clash l (zero-dead L t w))
       go (suc k) l = omega arith
 
-  spent-keep : (i : ℕ) → eqb i k ≡ false → on spent i ≡ on (w .A) i
-  unfolding spent
-  spent-keep i z = getD-set-other (w .A) k i noSlot noSlot (eqb-false i k z)
-
-  spent-gone : (i : ℕ) → eqb i k ≡ true → lives (L .clock) spent i ≡ false
-  unfolding spent
-  spent-gone i z =
-      let e : i ≡ k = eqb-true i k z in
-      dead-no (L .clock) (on (set (w .A) k noSlot) i) (rw e (getD-set-same (w .A) k noSlot noSlot (live-inside (L .clock) (w .A) k lk)))
-
   other-home : (a : Slot) → Under (w .A) a → eqb (a .r .session) k ≡ false
   other-home a u = ne-eqb (a .r .session) k (λ e. ns (rw e at (u .home)))
 
   other-parent : (a : Slot) (j : ℕ) → Under (w .A) a → upOf (a .r) ≡ suc j → eqb (suc j) k ≡ false
   other-parent a j u e = ne-eqb (suc j) k (λ x. ng (rw x at (up-grants (w .A) _ _ _ j (u .line) e .0)))
 
-  pub tied-removed : (q : Line → Bool) (F : Fate) → isHeld F ≡ false → q (on (w .A) k .e) ≡ true
-      → ((j : ℕ) → lives (L .clock) (w .A) j ≡ true → j ≢ k → q (on (w .A) j .e) ≡ false)
-      → (v : Tied (closeAll F q L) (remove k t)) × (v .A ≡ set (w .A) k noSlot) × (v .n ≡ w .n)
-  unfolding closeAll spent
-  tied-removed q F hF picked others = (
-    record {
-      A = spent;
-      n = w .n;
-      slots-are = put-slots (t .slots) (w .A) k noSlot (w .slots-are) some-slot;
-      clock-is = w .clock-is;
-      next-is = w .next-is;
-      sim =
-          sim-drop L (w .A) spent (w .n) (w .sim) (λ i. eqb i k) q F hF (length-set (w .A) k noSlot) spent-keep spent-gone agree
-          (λ i l u z. other-home (on (w .A) i) u) (λ i j l u e z. other-parent (on (w .A) i) j u e);
-    },
-    refl,
-    refl,
-  )
-    where
-      agree : (i : ℕ) → lives (L .clock) (w .A) i ≡ true → q (on (w .A) i .e) ≡ eqb i k
-      agree i l = go (ℕ-discrete i k)
-        where
-          go : Dec (i ≡ k) → q (on (w .A) i .e) ≡ eqb i k
-          go (yes e) = rw e picked ∙ sym (eq-eqb i k e)
-          go (no ne) = others i l ne ∙ sym (ne-eqb i k ne)
+  module _ (x : Rec) (dead : alive (L .clock) x ≡ false) where
+    left : List Slot
+    left = set (w .A) k (bare x)
+
+    left-keep : (i : ℕ) → eqb i k ≡ false → on left i ≡ on (w .A) i
+    unfolding left
+    left-keep i z = getD-set-other (w .A) k i (bare x) noSlot (eqb-false i k z)
+
+    left-gone : (i : ℕ) → eqb i k ≡ true → lives (L .clock) left i ≡ false
+    unfolding left
+    left-gone i z = rw (eqb-true i k z, getD-set-same (w .A) k (bare x) noSlot (live-inside (L .clock) (w .A) k lk)) dead
+
+    pub tied-left : (q : Line → Bool) (F : Fate) → isHeld F ≡ false → q (on (w .A) k .e) ≡ true
+        → ((j : ℕ) → lives (L .clock) (w .A) j ≡ true → j ≢ k → q (on (w .A) j .e) ≡ false)
+        → (v : Tied (closeAll F q L) (put k x t)) × (v .A ≡ set (w .A) k (bare x)) × (v .n ≡ w .n)
+    unfolding closeAll left
+    tied-left q F hF picked others = (
+      record {
+        A = left;
+        n = w .n;
+        slots-are = put-slots (t .slots) (w .A) k (bare x) (w .slots-are) some-slot;
+        clock-is = w .clock-is;
+        next-is = w .next-is;
+        sim =
+            sim-drop L (w .A) left (w .n) (w .sim) (λ i. eqb i k) q F hF (length-set (w .A) k (bare x)) left-keep left-gone agree
+            (λ i l u z. other-home (on (w .A) i) u) (λ i j l u e z. other-parent (on (w .A) i) j u e);
+      },
+      refl,
+      refl,
+    )
+      where
+        agree : (i : ℕ) → lives (L .clock) (w .A) i ≡ true → q (on (w .A) i .e) ≡ eqb i k
+        agree i l = go (ℕ-discrete i k)
+          where
+            go : Dec (i ≡ k) → q (on (w .A) i .e) ≡ eqb i k
+            go (yes e) = rw e picked ∙ sym (eq-eqb i k e)
+            go (no ne) = others i l ne ∙ sym (ne-eqb i k ne)
+
+    -- what was said of it still holds of its session and parents
+    pub left-good : Good (set (w .A) k (bare x)) (w .n) (on (w .A) k)
+    left-good =
+        let g = w .sim .good k lk in
+        good-move (w .A) (set (w .A) k (bare x)) (w .n) (w .n) (on (w .A) k) (omega arith)
+        (λ h. getD-set-other (w .A) k (on (w .A) k .r .session) (bare x) noSlot (eqb-false _ k (other-home (on (w .A) k) (under-of (w .A) (on (w .A) k) (g .placed) h))))
+        (λ h j e. getD-set-other (w .A) k (suc j) (bare x) noSlot (eqb-false (suc j) k (other-parent (on (w .A) k) j (under-of (w .A) (on (w .A) k) (g .placed) h) e)))
+        g
 
   pub tied-remove : (q : Line → Bool) (F : Fate) → isHeld F ≡ false → q (on (w .A) k .e) ≡ true
       → ((j : ℕ) → lives (L .clock) (w .A) j ≡ true → j ≢ k → q (on (w .A) j .e) ≡ false) → Tied (closeAll F q L) (remove k t)
-  tied-remove q F hF picked others = tied-removed q F hF picked others .0
-
-  -- what was said of it still holds of its session and parents
-  pub spent-good : Good (set (w .A) k noSlot) (w .n) (on (w .A) k)
-  spent-good =
-      let g = w .sim .good k lk in
-      good-move (w .A) (set (w .A) k noSlot) (w .n) (w .n) (on (w .A) k) (omega arith)
-      (λ h. getD-set-other (w .A) k (on (w .A) k .r .session) noSlot noSlot (eqb-false _ k (other-home (on (w .A) k) (under-of (w .A) (on (w .A) k) (g .placed) h))))
-      (λ h j e. getD-set-other (w .A) k (suc j) noSlot noSlot (eqb-false (suc j) k (other-parent (on (w .A) k) j (under-of (w .A) (on (w .A) k) (g .placed) h) e)))
-      g
+  tied-remove q F hF picked others = tied-left freeRec refl q F hF picked others .0
 
 -- A record is added in the slot that is found free
 pub serial-is : (L : Notebook) (t : Table) (w : Tied L t) → 1 ≤ t .next → (t .next ≡ w .n) × (w .n < 4294967296)

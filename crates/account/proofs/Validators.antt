@@ -12,20 +12,21 @@ use Rattle.protocol.specs.Table.{Table, recAt}
 use Rattle.protocol.specs.Register.{callbackOf}
 use Rattle.protocol.specs.Request.{fromQuery, present}
 use Rattle.protocol.specs.Answers.{Code, InvalidRequest, InvalidTicket, InvalidService, YesNo, Success, Failure, CallbackTo, replyText, replyAnswer, successText}
-use Rattle.protocol.specs.Steps.{Brought, Step, step, remove, roomFor, newRec, ticketSlot, waitingSlot, chainOf, isPlain, failed, proxyParent, waitingWith, waitingStep, grants}
+use Rattle.protocol.specs.Steps.{Brought, Step, step, put, remove, roomFor, newRec, ticketSlot, waitingSlot, chainOf, isPlain, failed, proxyParent, waitingWith, waitingStep, grants}
 use Rattle.protocol.specs.declared.Path.the-variants as path
 use Rattle.protocol.specs.declared.Validator.{Validator}
 use Rattle.protocol.specs.declared.Validator.the-variants as validator
 use Rattle.protocol.proofs.Laws.{both}
 use Rattle.protocol.proofs.Added.{Room, room-one}
 use Rattle.account.specs.History.{Text, Told}
-use Rattle.account.specs.Clauses.{outOfPlace, unsigned, meant, burntAt, userOf, sinceOf, raisedAt, accepting, judging, settling}
+use Rattle.account.specs.Clauses.{outOfPlace, unsigned, meant, burntAt, leftAt, userOf, sinceOf, raisedAt, accepting, judging, settling}
 use Rattle.account.specs.Reading.{Item, Burnt, CalledBack, readValidator, readFinish}
+use Rattle.account.specs.Notebook.{notebook}
 use Rattle.account.proofs.Base.{fork}
-use Rattle.account.proofs.Sim.{on}
+use Rattle.account.proofs.Sim.{on, alive}
 use Rattle.account.proofs.Reached.{Reached, RightLine}
 use Rattle.account.proofs.Items.{reach-unburnt, right-line, reach-welcome, reach-callback, reach-refused}
-use Rattle.account.proofs.Rules.{taken, marked, for-service, reach-burnt, names-user, names-since, settled-owes, reach-raised}
+use Rattle.account.proofs.Rules.{taken, marked, for-service, reach-burnt, accepted-left, names-user, names-since, settled-owes, reach-raised}
 use Rattle.account.proofs.Texts.{pgt-read, iou-read}
 use Rattle.account.proofs.Counts.{Ok, ok-by}
 use Rattle.account.specs.Account.{says, carriesTicket}
@@ -79,18 +80,19 @@ module _ (start : ℕ) (h : List Item) (t : Table) (R : Reached start h t) (v : 
     abbrev r : Rec
     r = recAt k (t .slots)
 
-    abbrev t′ : Table
-    t′ = remove k t
-
     burnt-ok : (code : Code) → Goes (step (burntAt k t) (failed v code))
     burnt-ok code = failed-ok (burntAt k t) code (reach-burnt start h t R ticket e)
 
-    module _ (right : RightLine v renew service (on (R .tied .A) k .e)) where
+    -- it is accepted, and leaves x
+    module _ (right : RightLine v renew service (on (R .tied .A) k .e)) (x : Rec) (dead : alive (notebook start h .clock) x ≡ false) where
+      abbrev t′ : Table
+      t′ = put k x t
+
       plain-ok : isPlain v ≡ true → Goes (step t′ (YesNo true))
       unfolding replyAnswer replyText readValidator
       plain-ok z =
           record {
-            reached = reach-welcome start h t R ticket e v renew service (ascii "yes\n") right (rw z);
+            reached = reach-welcome start h t R ticket e x dead v renew service (ascii "yes\n") right (rw z);
             issues = refl;
             accepts-eq = refl;
           }
@@ -100,8 +102,8 @@ module _ (start : ℕ) (h : List Item) (t : Table) (R : Reached start h t) (v : 
       success-ok z =
           record {
             reached =
-                reach-welcome start h t R ticket e v renew service (successText (userOf r t′) (sinceOf r t′) (r .mark) [] (chainOf (proxyParent r) (t′ .slots))) right
-                (rw (z, names-user start h t R ticket e, names-since start h t R ticket e));
+                reach-welcome start h t R ticket e x dead v renew service (successText (userOf r t′) (sinceOf r t′) (r .mark) [] (chainOf (proxyParent r) (t′ .slots))) right
+                (rw (z, names-user start h t R ticket e x dead, names-since start h t R ticket e x dead));
             issues = refl;
             accepts-eq = refl;
           }
@@ -120,7 +122,7 @@ module _ (start : ℕ) (h : List Item) (t : Table) (R : Reached start h t) (v : 
       unfolding waitingStep waitingWith replyAnswer
       callback-ok m =
           ok-by start h (path.Validate v) _ (CalledBack v renew ticket service url (nameOf waiting) (iouText (waiting .iou)) (waiting .serial) ∷ []) _ callback-said
-          (record { reached = reach-callback start h t R ticket e m v renew service url (g .random) right; issues = refl; accepts-eq = refl })
+          (record { reached = reach-callback start h t R ticket e x dead m v renew service url (g .random) right; issues = refl; accepts-eq = refl })
 
       accept-ok : Goes (accepting v r url g t′)
       unfolding accepting grants
@@ -130,6 +132,9 @@ module _ (start : ℕ) (h : List Item) (t : Table) (R : Reached start h t) (v : 
           fork Goes (not (isEmpty url) && same url (callbackOf (r .text) (g .register)) && leb (recAt (proxyParent r) (t′ .slots) .depth + 1) deepest && roomFor 1 t′)
           (λ y. callback-ok (room-one t′ (both (not (isEmpty url) && same url (callbackOf (r .text) (g .register)) && leb (recAt (proxyParent r) (t′ .slots) .depth + 1) deepest) (roomFor 1 t′) y .1)))
           (λ y. success-ok z))
+
+    accepted-ok : RightLine v renew service (on (R .tied .A) k .e) → Goes (accepting v r url g (leftAt k r (remove k t)))
+    accepted-ok right = let l = accepted-left (notebook start h .clock) k r t in rw (l .table-is) (accept-ok right (l .rest) (l .dead))
 
   pub judged-ok : Goes (judging v (ticketSlot (fromQuery "ticket" q) t) q g t)
   unfolding judging
@@ -141,7 +146,7 @@ module _ (start : ℕ) (h : List Item) (t : Table) (R : Reached start h t) (v : 
       fork Goes (unsigned renew (recAt (ticketSlot ticket t) (t .slots))) (λ z. burnt-ok e InvalidTicket)
       (λ m.
       fork Goes (meant (recAt (ticketSlot ticket t) (t .slots)) service)
-      (λ s. accept-ok e (right-line start h t R ticket e v renew service (taken v _ p) (marked renew _ m) (for-service _ service s)))
+      (λ s. accepted-ok e (right-line start h t R ticket e v renew service (taken v _ p) (marked renew _ m) (for-service _ service s)))
       (λ z. burnt-ok e InvalidService))))
 
   pub bad-ok : Ok start h (path.Validate v) [] (step t (failed v InvalidRequest))

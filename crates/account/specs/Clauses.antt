@@ -5,12 +5,12 @@ use mathlib.Core.List.{[]}
 use Prim.Native.Nat.{ℕ}
 use lib.Dec.{eqb}
 use Rattle.protocol.specs.Bytes.{if, isEmpty, same}
-use Rattle.protocol.specs.Tickets.{aProxy, iouText}
+use Rattle.protocol.specs.Tickets.{aService, aProxy, aGrant, aVisit, iouText}
 use Rattle.protocol.specs.Records.{Rec}
 use Rattle.protocol.specs.Table.{Table, recAt}
 use Rattle.protocol.specs.Request.{fromQuery, present}
 use Rattle.protocol.specs.Answers.{ErrorPage, SignedIn, InvalidTicket, InvalidService, YesNo, Success, Failure}
-use Rattle.protocol.specs.Steps.{Brought, Step, step, put, remove, endSession, roomFor, chainOf, ticketStep, issueAll, isPlain, takesProxies, failed, proxyParent, waitingStep, grants, granted}
+use Rattle.protocol.specs.Steps.{Brought, Step, step, put, remove, endSession, roomFor, chainOf, ticketStep, issueAll, isPlain, takesProxies, failed, proxyParent, waitingStep, grants, turned}
 use Rattle.protocol.specs.declared.Validator.{Validator}
 use Rattle.account.specs.History.{Text}
 
@@ -26,9 +26,13 @@ unsigned renew r = renew && eqb (r .mark) 0
 unfoldable pub meant : Rec → Text → Bool
 meant r service = same (r .text) service
 
--- the table after (3) to (5): the ticket in slot k is removed, as it is at (6)
+-- the table after (3) to (5): the ticket in slot k is removed
 unfoldable pub burntAt : ℕ → Table → Table
 burntAt k t = remove k t
+
+-- and after (6), from t without it: the service ticket r leaves its visit in the slot, a proxy ticket nothing
+unfoldable pub leftAt : ℕ → Rec → Table → Table
+leftAt k r t = if (eqb (r .kind) aService) (put k (turned aVisit r (t .slots)) t) t
 
 -- the user that a success answer names, and the sign-on time: its session's
 unfoldable pub userOf : Rec → Table → Text
@@ -37,7 +41,7 @@ userOf r t = recAt (r .session) (t .slots) .text
 unfoldable pub sinceOf : Rec → Table → ℕ
 sinceOf r t = recAt (r .session) (t .slots) .since
 
--- (6): the ticket r is accepted; t is the table without it
+-- (6): the ticket r is accepted; t is the table with what it left
 unfoldable pub accepting : Validator → Rec → Text → Brought → Table → Step
 accepting v r url g t =
     if (isPlain v)
@@ -56,12 +60,12 @@ judging v k q g t =
     (if (unsigned (present "renew" q) (recAt k (t .slots)))
     (step (burntAt k t) (failed v InvalidTicket))
     (if (meant (recAt k (t .slots)) (fromQuery "service" q))
-    (accepting v (recAt k (t .slots)) (fromQuery "pgtUrl" q) g (remove k t))
+    (accepting v (recAt k (t .slots)) (fromQuery "pgtUrl" q) g (leftAt k (recAt k (t .slots)) (remove k t)))
     (step (burntAt k t) (failed v InvalidService)))))
 
 -- finish, yes: the waiting grant r in slot k becomes a grant
 unfoldable pub raisedAt : ℕ → Rec → Table → Table
-raisedAt k r t = put k (granted r (t .slots)) t
+raisedAt k r t = put k (turned aGrant r (t .slots)) t
 
 -- finish: a live waiting grant in slot k, or none; no removes it
 unfoldable pub settling : ℕ → Rec → Bool → Table → Step

@@ -19,7 +19,7 @@ use Rattle.protocol.specs.Register.{entryBody, encodeEntry, decodeEntry, decode
 use Rattle.protocol.specs.Request.{pathNamed, notEmpty, pieces, countNamed, firstNamed, occurrences, rawValue, hexValue, unitOf, skipOf, decodedFrom, valueMost, charsRight, valueRight, loginNames, bodyNames, logoutNames, validatorNames, proxyNames, badName, malformed, valueOf, present}
 use Rattle.protocol.specs.Calendar.{isLeap, yearLength, monthLength, yearFrom, yearOf, monthFrom, monthOf, dateOf, padded, dayText, clockText, dateText}
 use Rattle.protocol.specs.Answers.{escapedByte, escaped, extended, pageHead, formText, inResponse, proxyLines, attributesText, successText, failureText, proxySuccessText, callbackText, replyText, replyAnswer}
-use Rattle.protocol.specs.Steps.{tick, endSession, isNamed, slotNamed, ticketSlot, slotFor, roomFor, expiryFor, newRec, add, chainFrom, chainOf, formWith, formStep, ticketWith, ticketStep, signedOn, loginPage, unknownService, loginGet, admitted, newSession, needs, issueAll, accepted, credentials, loginTicket, loginPost, waitingWith, waitingStep, grants, acceptTicket, judgeTicket, presented, validate, granted, waitingSlot, finished, finishAt, finish, proxyWith, proxyBy, proxy, linkTo, logout}
+use Rattle.protocol.specs.Steps.{tick, endSession, isNamed, slotNamed, ticketSlot, slotFor, roomFor, expiryFor, newRec, add, chainFrom, chainOf, formWith, formStep, ticketWith, ticketStep, signedOn, loginPage, unknownService, loginGet, admitted, newSession, needs, issueAll, accepted, credentials, loginTicket, loginPost, waitingWith, waitingStep, grants, turned, leftBy, acceptTicket, judgeTicket, presented, validate, waitingSlot, finished, finishAt, finish, proxyWith, proxyBy, proxy, linkTo, logout}
 use Rattle.protocol.specs.Calls.{Result, outcomeWith, answerRefusal, stepOf, delivered, answerOf, finishRefusal, finishOf, formatRefusal, formatOf, checkOf, formRefusal, formOf}
 use Rattle.account.specs.History.{Text, Call, ask, tell, Event, served, eventOf, tableAfter, historyOf}
 use Rattle.account.specs.Reading.{Item, Passed, Showed, Spent, Ended, Opened, Issued, Proxied, Burnt, Welcomed, CalledBack, Settled, readLoginGet, readSession, readLoginPost, readValidator, readProxy, readFinish, readGet, readPost, readCall, read, trailOf}
@@ -89,7 +89,7 @@ calls =
 
 -- the whole life of the table
 whole : Lived
-unfolding lived calls asked register joined same among allDiffer allWithin noPoint announced withTails notBelow pointAt pointsFrom points pointRight pointsRight nameRight holds leOf bytesOf spliced upTo past cuts digits hex blocks checkFrom houseCheck sealed checkRight deepest markMost depthLeast depthMost textLeast textMost secretFrom iouFrom sinceFrom ticketText iouText recBody encodeRec decodeRec nameOf textRight fieldsRight sinceRight serialRight expiryRight ownRight headBody encodeTable decodeTable slotFrom countKind serialTaken serialsDiffer sessionRight grantRight parentRight allRight loginCap rulesHold tableLawful formatted entryBody encodeEntry decodeEntry decodeRegister addressRight entryRight allEntriesRight servicesOf registerLawful registered callbackOf pathNamed notEmpty pieces countNamed firstNamed occurrences rawValue hexValue unitOf skipOf decodedFrom valueMost charsRight valueRight loginNames bodyNames logoutNames validatorNames proxyNames badName malformed valueOf present escapedByte escaped extended pageHead formText inResponse proxyLines isLeap yearLength monthLength yearFrom yearOf monthFrom monthOf dateOf padded dayText clockText dateText attributesText successText failureText proxySuccessText callbackText replyText replyAnswer tick endSession isNamed slotNamed ticketSlot slotFor roomFor expiryFor newRec add chainFrom chainOf formWith formStep ticketWith ticketStep signedOn loginPage unknownService loginGet admitted newSession needs issueAll accepted credentials loginTicket loginPost waitingWith waitingStep grants acceptTicket judgeTicket presented validate granted waitingSlot finished finishAt finish proxyWith proxyBy proxy linkTo logout outcomeWith answerRefusal stepOf delivered answerOf finishRefusal finishOf formatRefusal formatOf checkOf formRefusal formOf served eventOf tableAfter historyOf readLoginGet readSession readLoginPost readValidator readProxy readFinish readGet readPost readCall read trailOf closeAll enter raiseAll pass look note notebook tally openerOf spentLive calledOf originOf grantOf issuedBy acceptedBy issued acceptedOfAccount waitingAmong waitingIn successes
+unfolding lived calls asked register joined same among allDiffer allWithin noPoint announced withTails notBelow pointAt pointsFrom points pointRight pointsRight nameRight holds leOf bytesOf spliced upTo past cuts digits hex blocks checkFrom houseCheck sealed checkRight deepest markMost depthLeast depthMost textLeast textMost secretFrom iouFrom sinceFrom ticketText iouText recBody encodeRec decodeRec nameOf textRight fieldsRight sinceRight serialRight expiryRight ownRight headBody encodeTable decodeTable slotFrom countKind serialTaken serialsDiffer sessionRight grantRight parentRight allRight loginCap rulesHold tableLawful formatted entryBody encodeEntry decodeEntry decodeRegister addressRight entryRight allEntriesRight servicesOf registerLawful registered callbackOf pathNamed notEmpty pieces countNamed firstNamed occurrences rawValue hexValue unitOf skipOf decodedFrom valueMost charsRight valueRight loginNames bodyNames logoutNames validatorNames proxyNames badName malformed valueOf present escapedByte escaped extended pageHead formText inResponse proxyLines isLeap yearLength monthLength yearFrom yearOf monthFrom monthOf dateOf padded dayText clockText dateText attributesText successText failureText proxySuccessText callbackText replyText replyAnswer tick endSession isNamed slotNamed ticketSlot slotFor roomFor expiryFor newRec add chainFrom chainOf formWith formStep ticketWith ticketStep signedOn loginPage unknownService loginGet admitted newSession needs issueAll accepted credentials loginTicket loginPost waitingWith waitingStep grants turned leftBy acceptTicket judgeTicket presented validate waitingSlot finished finishAt finish proxyWith proxyBy proxy linkTo logout outcomeWith answerRefusal stepOf delivered answerOf finishRefusal finishOf formatRefusal formatOf checkOf formRefusal formOf served eventOf tableAfter historyOf readLoginGet readSession readLoginPost readValidator readProxy readFinish readGet readPost readCall read trailOf closeAll enter raiseAll pass look note notebook tally openerOf spentLive calledOf originOf grantOf issuedBy acceptedBy issued acceptedOfAccount waitingAmong waitingIn successes
 whole = lived (formatOf (zeros 4608) 999 .table) calls
 
 -- the texts of tickets whose secrets are zeros
@@ -153,12 +153,12 @@ said =
     ∷ []
 
 pub trailIn : Lived → List Item
-unfolding joined same among allDiffer allWithin noPoint announced withTails notBelow pointAt pointsFrom points pointRight pointsRight nameRight holds leOf bytesOf spliced upTo past cuts digits hex blocks checkFrom houseCheck sealed checkRight deepest markMost depthLeast depthMost textLeast textMost secretFrom iouFrom sinceFrom ticketText iouText recBody encodeRec decodeRec nameOf textRight fieldsRight sinceRight serialRight expiryRight ownRight headBody encodeTable decodeTable slotFrom countKind serialTaken serialsDiffer sessionRight grantRight parentRight allRight loginCap rulesHold tableLawful formatted entryBody encodeEntry decodeEntry decodeRegister addressRight entryRight allEntriesRight servicesOf registerLawful registered callbackOf pathNamed notEmpty pieces countNamed firstNamed occurrences rawValue hexValue unitOf skipOf decodedFrom valueMost charsRight valueRight loginNames bodyNames logoutNames validatorNames proxyNames badName malformed valueOf present escapedByte escaped extended pageHead formText inResponse proxyLines isLeap yearLength monthLength yearFrom yearOf monthFrom monthOf dateOf padded dayText clockText dateText attributesText successText failureText proxySuccessText callbackText replyText replyAnswer tick endSession isNamed slotNamed ticketSlot slotFor roomFor expiryFor newRec add chainFrom chainOf formWith formStep ticketWith ticketStep signedOn loginPage unknownService loginGet admitted newSession needs issueAll accepted credentials loginTicket loginPost waitingWith waitingStep grants acceptTicket judgeTicket presented validate granted waitingSlot finished finishAt finish proxyWith proxyBy proxy linkTo logout outcomeWith answerRefusal stepOf delivered answerOf finishRefusal finishOf formatRefusal formatOf checkOf formRefusal formOf served eventOf tableAfter historyOf readLoginGet readSession readLoginPost readValidator readProxy readFinish readGet readPost readCall read trailOf closeAll enter raiseAll pass look note notebook tally openerOf spentLive calledOf originOf grantOf issuedBy acceptedBy issued acceptedOfAccount waitingAmong waitingIn successes
+unfolding joined same among allDiffer allWithin noPoint announced withTails notBelow pointAt pointsFrom points pointRight pointsRight nameRight holds leOf bytesOf spliced upTo past cuts digits hex blocks checkFrom houseCheck sealed checkRight deepest markMost depthLeast depthMost textLeast textMost secretFrom iouFrom sinceFrom ticketText iouText recBody encodeRec decodeRec nameOf textRight fieldsRight sinceRight serialRight expiryRight ownRight headBody encodeTable decodeTable slotFrom countKind serialTaken serialsDiffer sessionRight grantRight parentRight allRight loginCap rulesHold tableLawful formatted entryBody encodeEntry decodeEntry decodeRegister addressRight entryRight allEntriesRight servicesOf registerLawful registered callbackOf pathNamed notEmpty pieces countNamed firstNamed occurrences rawValue hexValue unitOf skipOf decodedFrom valueMost charsRight valueRight loginNames bodyNames logoutNames validatorNames proxyNames badName malformed valueOf present escapedByte escaped extended pageHead formText inResponse proxyLines isLeap yearLength monthLength yearFrom yearOf monthFrom monthOf dateOf padded dayText clockText dateText attributesText successText failureText proxySuccessText callbackText replyText replyAnswer tick endSession isNamed slotNamed ticketSlot slotFor roomFor expiryFor newRec add chainFrom chainOf formWith formStep ticketWith ticketStep signedOn loginPage unknownService loginGet admitted newSession needs issueAll accepted credentials loginTicket loginPost waitingWith waitingStep grants turned leftBy acceptTicket judgeTicket presented validate waitingSlot finished finishAt finish proxyWith proxyBy proxy linkTo logout outcomeWith answerRefusal stepOf delivered answerOf finishRefusal finishOf formatRefusal formatOf checkOf formRefusal formOf served eventOf tableAfter historyOf readLoginGet readSession readLoginPost readValidator readProxy readFinish readGet readPost readCall read trailOf closeAll enter raiseAll pass look note notebook tally openerOf spentLive calledOf originOf grantOf issuedBy acceptedBy issued acceptedOfAccount waitingAmong waitingIn successes
 trailIn l = trailOf (l .events)
 
 -- issued, accepted, burnt, ended, expired, waiting
 pub countsIn : Lived → List ℕ
-unfolding joined same among allDiffer allWithin noPoint announced withTails notBelow pointAt pointsFrom points pointRight pointsRight nameRight holds leOf bytesOf spliced upTo past cuts digits hex blocks checkFrom houseCheck sealed checkRight deepest markMost depthLeast depthMost textLeast textMost secretFrom iouFrom sinceFrom ticketText iouText recBody encodeRec decodeRec nameOf textRight fieldsRight sinceRight serialRight expiryRight ownRight headBody encodeTable decodeTable slotFrom countKind serialTaken serialsDiffer sessionRight grantRight parentRight allRight loginCap rulesHold tableLawful formatted entryBody encodeEntry decodeEntry decodeRegister addressRight entryRight allEntriesRight servicesOf registerLawful registered callbackOf pathNamed notEmpty pieces countNamed firstNamed occurrences rawValue hexValue unitOf skipOf decodedFrom valueMost charsRight valueRight loginNames bodyNames logoutNames validatorNames proxyNames badName malformed valueOf present escapedByte escaped extended pageHead formText inResponse proxyLines isLeap yearLength monthLength yearFrom yearOf monthFrom monthOf dateOf padded dayText clockText dateText attributesText successText failureText proxySuccessText callbackText replyText replyAnswer tick endSession isNamed slotNamed ticketSlot slotFor roomFor expiryFor newRec add chainFrom chainOf formWith formStep ticketWith ticketStep signedOn loginPage unknownService loginGet admitted newSession needs issueAll accepted credentials loginTicket loginPost waitingWith waitingStep grants acceptTicket judgeTicket presented validate granted waitingSlot finished finishAt finish proxyWith proxyBy proxy linkTo logout outcomeWith answerRefusal stepOf delivered answerOf finishRefusal finishOf formatRefusal formatOf checkOf formRefusal formOf served eventOf tableAfter historyOf readLoginGet readSession readLoginPost readValidator readProxy readFinish readGet readPost readCall read trailOf closeAll enter raiseAll pass look note notebook tally openerOf spentLive calledOf originOf grantOf issuedBy acceptedBy issued acceptedOfAccount waitingAmong waitingIn successes
+unfolding joined same among allDiffer allWithin noPoint announced withTails notBelow pointAt pointsFrom points pointRight pointsRight nameRight holds leOf bytesOf spliced upTo past cuts digits hex blocks checkFrom houseCheck sealed checkRight deepest markMost depthLeast depthMost textLeast textMost secretFrom iouFrom sinceFrom ticketText iouText recBody encodeRec decodeRec nameOf textRight fieldsRight sinceRight serialRight expiryRight ownRight headBody encodeTable decodeTable slotFrom countKind serialTaken serialsDiffer sessionRight grantRight parentRight allRight loginCap rulesHold tableLawful formatted entryBody encodeEntry decodeEntry decodeRegister addressRight entryRight allEntriesRight servicesOf registerLawful registered callbackOf pathNamed notEmpty pieces countNamed firstNamed occurrences rawValue hexValue unitOf skipOf decodedFrom valueMost charsRight valueRight loginNames bodyNames logoutNames validatorNames proxyNames badName malformed valueOf present escapedByte escaped extended pageHead formText inResponse proxyLines isLeap yearLength monthLength yearFrom yearOf monthFrom monthOf dateOf padded dayText clockText dateText attributesText successText failureText proxySuccessText callbackText replyText replyAnswer tick endSession isNamed slotNamed ticketSlot slotFor roomFor expiryFor newRec add chainFrom chainOf formWith formStep ticketWith ticketStep signedOn loginPage unknownService loginGet admitted newSession needs issueAll accepted credentials loginTicket loginPost waitingWith waitingStep grants turned leftBy acceptTicket judgeTicket presented validate waitingSlot finished finishAt finish proxyWith proxyBy proxy linkTo logout outcomeWith answerRefusal stepOf delivered answerOf finishRefusal finishOf formatRefusal formatOf checkOf formRefusal formOf served eventOf tableAfter historyOf readLoginGet readSession readLoginPost readValidator readProxy readFinish readGet readPost readCall read trailOf closeAll enter raiseAll pass look note notebook tally openerOf spentLive calledOf originOf grantOf issuedBy acceptedBy issued acceptedOfAccount waitingAmong waitingIn successes
 countsIn l =
     issued (l .events)
     ∷ acceptedOfAccount (l .events)

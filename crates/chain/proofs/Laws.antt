@@ -1,15 +1,15 @@
 -- The walk from grant to parent: in a lawful table each grant on the way is a slot one less deep, and the lines, written one after the
 -- other, are those of the chain. Assumes nothing.
 use mathlib.Core.Path.{_≡_, refl, sym, ap, _∙_}
-use mathlib.Core.Bool.{Bool, true, false, _&&_}
+use mathlib.Core.Bool.{Bool, true, false, _&&_, _||_}
 use mathlib.Core.List.{List, [], _∷_, _++_}
 use Prim.Native.Nat.{ℕ, zero, suc, _+_, _-_, _≤_}
 use native.Mathlib.Omega.{arith}
-use borrow.Author.Tests.{eqb-true, ltb-true}
+use borrow.Author.Tests.{ne-eqb, eqb-true, ltb-true}
 use lib.Dec.{eqb, ltb}
 use lib.ListN.{length}
 use Rattle.protocol.specs.Bytes.{if}
-use Rattle.protocol.specs.Tickets.{aService, aProxy, depthMost}
+use Rattle.protocol.specs.Tickets.{aService, aProxy, aVisit, depthMost}
 use Rattle.protocol.specs.Records.{Rec}
 use Rattle.protocol.specs.Table.{Table, decodeTable, recAt, parentRight, grantRight, lastTime}
 use Rattle.protocol.specs.Answers.{proxyLines, proxiesText, replyText}
@@ -35,38 +35,43 @@ use Rattle.chain.specs.Walk.{Walk, Told}
 
 -- Only grants, waiting or not, have a depth
 
-shallow : (k n : ℕ) → n ≤ depthMost k → 1 ≤ n → 5 ≤ k
+shallow : (k n : ℕ) → n ≤ depthMost k → 1 ≤ n → (5 ≤ k) × (k ≤ 6)
 unfolding depthMost
 shallow zero n h g = absurd (omega arith)
 shallow (suc zero) n h g = absurd (omega arith)
 shallow (suc (suc zero)) n h g = absurd (omega arith)
 shallow (suc (suc (suc zero))) n h g = absurd (omega arith)
 shallow (suc (suc (suc (suc zero)))) n h g = absurd (omega arith)
-shallow (suc (suc (suc (suc (suc k))))) n h g = omega arith
+shallow (suc (suc (suc (suc (suc zero))))) n h g = (omega arith, omega arith)
+shallow (suc (suc (suc (suc (suc (suc zero)))))) n h g = (omega arith, omega arith)
+shallow (suc (suc (suc (suc (suc (suc (suc zero))))))) n h g = absurd (omega arith)
+shallow (suc (suc (suc (suc (suc (suc (suc (suc k)))))))) n h g = absurd (omega arith)
 
 -- and their parents are one less deep
-one-less : (slots : List Rec) (r : Rec) → 5 ≤ r .kind → (z v w d : Bool) → ltb (r .kind) aService ≡ z → eqb (r .kind) aService ≡ v → eqb (r .kind) aProxy ≡ w → eqb (r .depth) 1 ≡ d
+one-less : (slots : List Rec) (r : Rec) → 5 ≤ r .kind → r .kind ≤ 6 → (z v w d : Bool) → ltb (r .kind) aService ≡ z → eqb (r .kind) aService || eqb (r .kind) aVisit ≡ v → eqb (r .kind) aProxy ≡ w → eqb (r .depth) 1 ≡ d
     → if z (eqb (r .parent) 0) (if v (eqb (r .parent) (r .session)) (if w (grantRight slots r) (if d (eqb (r .parent) 0) (grantRight slots r && eqb (r .depth) (recAt (r .parent) slots .depth + 1))))) ≡ true
     → r .depth ≡ recAt (r .parent) slots .depth + 1
-one-less slots r k true v w d h₁ h₂ h₃ h₄ e = absurd (omega (arith, ltb-true (r .kind) 3 h₁))
-one-less slots r k false true w d h₁ h₂ h₃ h₄ e = absurd (omega (arith, eqb-true (r .kind) 3 h₂))
-one-less slots r k false false true d h₁ h₂ h₃ h₄ e = absurd (omega (arith, eqb-true (r .kind) 4 h₃))
-one-less slots r k false false false true h₁ h₂ h₃ h₄ e =
+one-less slots r k m true v w d h₁ h₂ h₃ h₄ e = absurd (omega (arith, ltb-true (r .kind) 3 h₁))
+one-less slots r k m false true w d h₁ h₂ h₃ h₄ e =
+    let n : _≡_ {A = Bool} false true = rw (ne-eqb (r .kind) 3 (λ q. omega arith), ne-eqb (r .kind) 7 (λ q. omega arith)) at h₂ in
+    absurd (let y : _≡_ {A = ℕ} 0 1 = cc in omega arith)
+one-less slots r k m false false true d h₁ h₂ h₃ h₄ e = absurd (omega (arith, eqb-true (r .kind) 4 h₃))
+one-less slots r k m false false false true h₁ h₂ h₃ h₄ e =
     let p : recAt (r .parent) slots .depth ≡ 0 = rw (eqb-true (r .parent) 0 e) in
     omega (arith, eqb-true (r .depth) 1 h₄)
-one-less slots r k false false false false h₁ h₂ h₃ h₄ e =
+one-less slots r k m false false false false h₁ h₂ h₃ h₄ e =
     eqb-true (r .depth) (recAt (r .parent) slots .depth + 1) (both (grantRight slots r) (eqb (r .depth) (recAt (r .parent) slots .depth + 1)) e .1)
 
-parent-depth : (slots : List Rec) (r : Rec) → 5 ≤ r .kind → parentRight slots r ≡ true → r .depth ≡ recAt (r .parent) slots .depth + 1
+parent-depth : (slots : List Rec) (r : Rec) → 5 ≤ r .kind → r .kind ≤ 6 → parentRight slots r ≡ true → r .depth ≡ recAt (r .parent) slots .depth + 1
 unfolding parentRight
-parent-depth slots r k e = one-less slots r k (ltb (r .kind) aService) (eqb (r .kind) aService) (eqb (r .kind) aProxy) (eqb (r .depth) 1) refl refl refl refl e
+parent-depth slots r k m e = one-less slots r k m (ltb (r .kind) aService) (eqb (r .kind) aService || eqb (r .kind) aVisit) (eqb (r .kind) aProxy) (eqb (r .depth) 1) refl refl refl refl e
 
 module _ (t : Table) (s : Sound t) (k : ℕ) (h : 1 ≤ recAt k (t .slots) .depth) where
-  deep-kind : 5 ≤ recAt k (t .slots) .kind
+  deep-kind : (5 ≤ recAt k (t .slots) .kind) × (recAt k (t .slots) .kind ≤ 6)
   deep-kind = shallow (recAt k (t .slots) .kind) (recAt k (t .slots) .depth) (owned t s k .deep) h
 
   deep-slot : (1 ≤ k) × (k ≤ length (t .slots))
-  deep-slot = (some k h, slot-within (t .slots) k (λ e. omega (arith, deep-kind)))
+  deep-slot = (some k h, slot-within (t .slots) k (λ e. omega (arith, deep-kind .0)))
     where
       some : (j : ℕ) → 1 ≤ recAt j (t .slots) .depth → 1 ≤ j
       some zero g = absurd (omega arith)
@@ -74,7 +79,7 @@ module _ (t : Table) (s : Sound t) (k : ℕ) (h : 1 ≤ recAt k (t .slots) .dept
 
   deep-parent : recAt k (t .slots) .depth ≡ recAt (recAt k (t .slots) .parent) (t .slots) .depth + 1
   deep-parent =
-      parent-depth (t .slots) (recAt k (t .slots)) deep-kind
+      parent-depth (t .slots) (recAt k (t .slots)) (deep-kind .0) (deep-kind .1)
       (recs3 (t .clock) (t .next) (t .slots) (recAt k (t .slots)) (right-slot (t .clock) (t .next) (t .slots) (s .rules .records) k) .2)
 
 -- The walk, over the bytes

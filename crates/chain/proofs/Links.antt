@@ -45,7 +45,7 @@ module _ (b : List ℕ) (l : Lawful b) where
 
   at-parent : (r : Rec) → SessionView slots r → ParentView slots r → Within (r .parent) b
   at-parent r v (orphan e) = none-within (r .parent) e
-  at-parent r v (of-session k e) = within (r .parent) (rw e (at-session r v (omega arith)))
+  at-parent r v (of-session k n e) = within (r .parent) (rw e (at-session r v k))
   at-parent r v (of-grant g k e) = within (r .parent) (taken-in b (r .parent) (omega arith))
 
   pub parent-within : (k : ℕ) → Within (recAt k slots .parent) b

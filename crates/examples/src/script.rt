@@ -7,6 +7,7 @@
 //   post TIME VERDICT TARGET BODY COOKIE     the verdict is yes or no
 //   finish TIME OUTCOME SERIAL               the outcome is yes or no
 //   read BODY                                username and password of a form
+//   visit TIME NUMBER COOKIE                 what a panel is told of sign-off
 //
 // The random input is always the same, so that a ticket's text is told by its serial: secrets of 9 bytes are all c3, those of
 // 16 all a1, the IOU's all b2.
@@ -14,6 +15,7 @@ use super::shown::newline;
 use super::shown::show_form;
 use super::shown::show_outcome;
 use super::shown::show_refusal;
+use super::shown::show_visit;
 use super::words::front;
 use super::words::number;
 use super::words::place_of;
@@ -58,6 +60,7 @@ fn step(line: &[u8], table: [u8; 4608], register: &[u8]) -> [u8; 4608] {
         b'p' => post(line, table, register),
         b'f' => finish(line, table),
         b'r' => read(line, table),
+        b'v' => visit(line, table),
         _ => table,
     }
 }
@@ -166,5 +169,20 @@ fn read(line: &[u8], table: [u8; 4608]) -> [u8; 4608] {
     let mut password = [0u8; 128];
     let form = signon::read_form(word(line, 1), &mut username, &mut password);
     show_form(form, &username, &password);
+    table
+}
+
+fn visit(line: &[u8], table: [u8; 4608]) -> [u8; 4608] {
+    let mut out = [0u8; 8192];
+    let which = number(word(line, 2)) % 4294967296;
+    let v = signon::visit(
+        &table,
+        word(line, 3),
+        which as u32,
+        time_of(line),
+        &RANDOM,
+        &mut out,
+    );
+    show_visit(v, &out);
     table
 }

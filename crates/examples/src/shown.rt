@@ -4,6 +4,7 @@ use super::words::word;
 use protocol::Answer;
 use protocol::Form;
 use protocol::Outcome;
+use protocol::Visit;
 
 pub fn newline() {
     io::write_all(1, b"\n");
@@ -86,4 +87,11 @@ pub fn show_form(form: Form, username: &[u8], password: &[u8]) {
     show_bytes(front(username, form.username_length));
     show_bytes(front(password, form.password_length));
     newline();
+}
+
+pub fn show_visit(visit: Visit, out: &[u8]) {
+    if visit.refusal != 0 {
+        return show_refusal(visit.refusal);
+    }
+    show_bytes(front(out, visit.length));
 }

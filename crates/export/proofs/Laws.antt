@@ -9,10 +9,12 @@ use lib.Dec.{eqb}
 use lib.ListN.{length, set}
 use Rattle.protocol.specs.Answers.{numberOf}
 use Rattle.protocol.specs.Calls.{Inputs, inputs, Result, result, answerOf, finishOf, FormRead, formRead, formOf}
+use Rattle.protocol.specs.Visits.{visitRead, visitOf}
 use Rattle.protocol.specs.declared.Method.{Method}
 use Rattle.protocol.specs.declared.Outcome.{Outcome}
 use Rattle.protocol.specs.declared.Form.{Form}
-use Rattle.export.specs.Numbers.{flag, methodOf, outcomeNumbers, formNumbers, Handed, handed, handedResult, answerHanded, finishHanded, HandedForm, handedForm, formHanded}
+use Rattle.protocol.specs.declared.Visit.{Visit}
+use Rattle.export.specs.Numbers.{flag, methodOf, outcomeNumbers, formNumbers, visitNumbers, Handed, handed, handedResult, answerHanded, finishHanded, handedVisit, visitHanded, HandedForm, handedForm, formHanded}
 
 seven : (l : List ℕ) (a b c d e f g : ℕ) → length l ≡ 7 → set (set (set (set (set (set (set l 0 a) 1 b) 2 c) 3 d) 4 e) 5 f) 6 g ≡ a ∷ b ∷ c ∷ d ∷ e ∷ f ∷ g ∷ []
 seven [] a b c d e f g h = absurd (omega arith)
@@ -32,6 +34,12 @@ three (x₁ ∷ x₂ ∷ []) a b c h = absurd (omega arith)
 three (x₁ ∷ x₂ ∷ x₃ ∷ []) a b c h = refl
 three (x₁ ∷ x₂ ∷ x₃ ∷ x₄ ∷ l) a b c h = absurd (omega arith)
 
+two : (l : List ℕ) (a b : ℕ) → length l ≡ 2 → set (set l 0 a) 1 b ≡ a ∷ b ∷ []
+two [] a b h = absurd (omega arith)
+two (x₁ ∷ []) a b h = absurd (omega arith)
+two (x₁ ∷ x₂ ∷ []) a b h = refl
+two (x₁ ∷ x₂ ∷ x₃ ∷ l) a b h = absurd (omega arith)
+
 pub outcome-put : (l : List ℕ) (o : Outcome) {k f : ℕ} → length l ≡ 7 → k ≡ numberOf (o .answer) → f ≡ flag (o .«cookie_cleared»)
     → set (set (set (set (set (set (set l 0 (o .refusal)) 1 k) 2 (o .status)) 3 (o .length)) 4 (o .«cookie_length»)) 5 f) 6 (o .«callback_serial») ≡ outcomeNumbers o
 unfolding outcomeNumbers
@@ -40,6 +48,10 @@ outcome-put l o {k} {f} h p q = seven l (o .refusal) k (o .status) (o .length) (
 pub form-put : (l : List ℕ) (f : Form) → length l ≡ 3 → set (set (set l 0 (f .refusal)) 1 (f .«username_length»)) 2 (f .«password_length») ≡ formNumbers f
 unfolding formNumbers
 form-put l f h = three l (f .refusal) (f .«username_length») (f .«password_length») h
+
+pub visit-put : (l : List ℕ) (v : Visit) → length l ≡ 2 → set (set l 0 (v .refusal)) 1 (v .length) ≡ visitNumbers v
+unfolding visitNumbers
+visit-put l v h = two l (v .refusal) (v .length) h
 
 module _ (l t g : List ℕ) (post : Bool) (u b k : List ℕ) (n : ℕ) (x : List ℕ) (v : Bool) (o c : List ℕ) where
   pub answer-none : (length l ≡ 7 → ⊥) → handed false l t o c ≡ answerHanded l (inputs t g (methodOf post) u b k n x v o c)
@@ -63,6 +75,18 @@ module _ (l table : List ℕ) (serial : ℕ) (ok : Bool) (time : ℕ) (out : Lis
   finish-some {l′} {t} {o} {r} h e m =
       let f : handed true (outcomeNumbers r) t o [] ≡ handedResult (finishOf table serial ok time out) = ap handedResult e in
       rw (eq-eqb (length l) 7 h, m) f
+
+module _ (l table cookie : List ℕ) (number time : ℕ) (random out : List ℕ) where
+  pub visit-none : (length l ≡ 2 → ⊥) → handed false l table out [] ≡ visitHanded l table cookie number time random out
+  unfolding visitHanded
+  visit-none h = rw (ne-eqb (length l) 2 h)
+
+  pub visit-some : {l′ o : List ℕ} {v : Visit} → length l ≡ 2 → visitRead v table o ≡ visitOf table cookie number time random out → l′ ≡ visitNumbers v
+      → handed true l′ table o [] ≡ visitHanded l table cookie number time random out
+  unfolding visitHanded
+  visit-some {l′} {o} {v} h e m =
+      let f : handed true (visitNumbers v) table o [] ≡ handedVisit (visitOf table cookie number time random out) = ap handedVisit e in
+      rw (eq-eqb (length l) 2 h, m) f
 
 module _ (l body username password : List ℕ) where
   pub form-none : (length l ≡ 3 → ⊥) → handedForm false l username password ≡ formHanded l body username password

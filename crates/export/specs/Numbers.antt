@@ -7,10 +7,12 @@ use lib.ListN.{length}
 use Rattle.protocol.specs.Bytes.{if}
 use Rattle.protocol.specs.Answers.{numberOf}
 use Rattle.protocol.specs.Calls.{Inputs, Result, answerOf, finishOf, FormRead, formOf}
+use Rattle.protocol.specs.Visits.{VisitRead, visitOf}
 use Rattle.protocol.specs.declared.Method.{Method}
 use Rattle.protocol.specs.declared.Method.the-variants as method
 use Rattle.protocol.specs.declared.Outcome.{Outcome}
 use Rattle.protocol.specs.declared.Form.{Form}
+use Rattle.protocol.specs.declared.Visit.{Visit}
 
 abbrev pub flag : Bool → ℕ
 flag true = 1
@@ -36,6 +38,10 @@ outcomeNumbers o =
 unfoldable pub formNumbers : Form → List ℕ
 formNumbers f = f .refusal ∷ f .«username_length» ∷ f .«password_length» ∷ []
 
+-- refusal, length of what is told
+unfoldable pub visitNumbers : Visit → List ℕ
+visitNumbers v = v .refusal ∷ v .length ∷ []
+
 -- what comes back: whether the list had the right length, the list, and the bytes
 pub record Handed : Type 0 where
   pub taken : Bool
@@ -56,6 +62,13 @@ answerHanded l i = if (eqb (length l) 7) (handedResult (answerOf i)) (handed fal
 
 unfoldable pub finishHanded : List ℕ → List ℕ → ℕ → Bool → ℕ → List ℕ → Handed
 finishHanded l table serial ok time out = if (eqb (length l) 7) (handedResult (finishOf table serial ok time out)) (handed false l table out [])
+
+abbrev pub handedVisit : VisitRead → Handed
+handedVisit r = handed true (visitNumbers (r .visit)) (r .table) (r .out) []
+
+unfoldable pub visitHanded : List ℕ → List ℕ → List ℕ → ℕ → ℕ → List ℕ → List ℕ → Handed
+visitHanded l table cookie number time random out =
+    if (eqb (length l) 2) (handedVisit (visitOf table cookie number time random out)) (handed false l table out [])
 
 pub record HandedForm : Type 0 where
   pub taken : Bool

@@ -1,15 +1,16 @@
-// The five calls for a host that links the library: numbers as themselves, a slice as pointer and length, and a result as a lent list of
+// The six calls for a host that links the library: numbers as themselves, a slice as pointer and length, and a result as a lent list of
 // numbers. A list of another length than the result has is refused: false, and nothing is written.
 use protocol::Answer;
 use protocol::Form;
 use protocol::Method;
 use protocol::Outcome;
+use protocol::Visit;
 ghost use mathlib.Core.Path.{_≡_};
 ghost use mathlib.Core.List.{[]};
 ghost use lib.ListN.{length};
 ghost use Rattle.protocol.specs.Answers.{numberOf};
 ghost use Rattle.protocol.specs.Calls.{inputs, numbered, formatOf, checkOf};
-ghost use Rattle.export.specs.Numbers.{flag, methodOf, outcomeNumbers, formNumbers, handed, answerHanded, finishHanded, formHanded, handedForm};
+ghost use Rattle.export.specs.Numbers.{flag, methodOf, outcomeNumbers, formNumbers, visitNumbers, handed, answerHanded, finishHanded, visitHanded, formHanded, handedForm};
 
 fn number_of(a: Answer) -> u64
     ensures { λ r. ⌜ r ≡ numberOf a ⌝ }
@@ -61,6 +62,15 @@ fn put_form(f: Form, list: &mut [u64])
     list[0] = f.refusal as u64;
     list[1] = f.username_length as u64;
     list[2] = f.password_length as u64;
+}
+
+// The two of a visit.
+fn put_visit(v: Visit, list: &mut [u64])
+    requires { ⌜ length (now list) ≡ 2 ⌝ }
+    ensures { λ _. ⌜ now (list .exit) ≡ visitNumbers v ⌝ }
+{
+    list[0] = v.refusal as u64;
+    list[1] = v.length as u64;
 }
 
 #[no_mangle]
@@ -148,5 +158,25 @@ pub extern "C" fn pyhtirso_finish(
     }
     let o = signon::finish(table, serial, ok, time, out);
     put_outcome(o, outcome);
+    true
+}
+
+#[no_mangle]
+pub extern "C" fn pyhtirso_visit(
+    table: &[u8],
+    cookie: &[u8],
+    number: u32,
+    time: u64,
+    random: &[u8],
+    out: &mut [u8],
+    visit: &mut [u64],
+) -> bool
+    ensures { λ r. ⌜ handed r (now (visit .exit)) (now (table .entry)) (now (out .exit)) [] ≡ visitHanded (now (visit .entry)) (now (table .entry)) (now (cookie .entry)) number time (now (random .entry)) (now (out .entry)) ⌝ }
+{
+    if visit.len() != 2 {
+        return false;
+    }
+    let v = signon::visit(table, cookie, number, time, random, out);
+    put_visit(v, visit);
     true
 }

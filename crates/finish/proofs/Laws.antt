@@ -7,11 +7,11 @@ use native.Mathlib.Omega.{arith}
 use borrow.Author.Tests.{eqb-true, ne-eqb}
 use lib.Dec.{eqb}
 use lib.ListN.{length, take}
-use Rattle.protocol.specs.Tickets.{aWaiting, iouText}
+use Rattle.protocol.specs.Tickets.{aGrant, aWaiting, iouText}
 use Rattle.protocol.specs.Records.{Rec, live}
 use Rattle.protocol.specs.Table.{Table, decodeTable, recAt}
 use Rattle.protocol.specs.Answers.{Failure, InvalidTicket}
-use Rattle.protocol.specs.Steps.{put, remove, granted, waitingSlot, finished, finishAt, finish, successOf}
+use Rattle.protocol.specs.Steps.{put, remove, turned, waitingSlot, finished, finishAt, finish, successOf}
 use Rattle.protocol.specs.Written.{Room, Wrote}
 use Rattle.protocol.specs.Held.{Lawful, In, Holds, Said, Done}
 use Rattle.protocol.specs.declared.Outcome.{Outcome}
@@ -55,8 +55,8 @@ module _ (b : List ℕ) (k : ℕ) (w : Waits k b) where
 
     -- yes
     pub yes-done : (o o′ b′ : List ℕ) (r : Outcome) → Said (successOf (recAt k slots .session) (recAt k slots .mark) (take n d′) (recAt k slots .parent) slots) r o o′
-        → Holds b′ (put k (granted (recAt k slots) slots) (decodeTable b))
-        → Done (finished (recAt k slots) (iouText (recAt k slots .iou)) (decodeTable b) (put k (granted (recAt k slots) slots) (decodeTable b))) r b′ o o′
+        → Holds b′ (put k (turned aGrant (recAt k slots) slots) (decodeTable b))
+        → Done (finished (recAt k slots) (iouText (recAt k slots .iou)) (decodeTable b) (put k (turned aGrant (recAt k slots) slots) (decodeTable b))) r b′ o o′
     unfolding finished
     yes-done o o′ b′ r h g =
         let q : take n d′ ≡ iouText (recAt k slots .iou) = read-back d d′ (iouText x) n v ∙ ap iouText e in
@@ -73,7 +73,7 @@ module _ (b : List ℕ) (k : ℕ) (w : Waits k b) where
     some : eqb k 0 ≡ false
     some = ne-eqb k 0 (λ e. omega (arith, w .slot .low))
 
-    pub settled-yes : y ≡ true → Done (finished (recAt k slots) (iouText (recAt k slots .iou)) (decodeTable b) (put k (granted (recAt k slots) slots) (decodeTable b))) r b′ o o′
+    pub settled-yes : y ≡ true → Done (finished (recAt k slots) (iouText (recAt k slots .iou)) (decodeTable b) (put k (turned aGrant (recAt k slots) slots) (decodeTable b))) r b′ o o′
         → Done (finishAt k (recAt k slots) y (decodeTable b)) r b′ o o′
     unfolding finishAt
     settled-yes e d = done-as (rw (some, e)) d

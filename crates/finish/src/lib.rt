@@ -5,9 +5,9 @@ use xml::Code;
 ghost use mathlib.Core.List.{[]};
 ghost use Prim.Native.Nat.{_≤_};
 ghost use lib.ListN.{length};
-ghost use Rattle.protocol.specs.Tickets.{iouText};
+ghost use Rattle.protocol.specs.Tickets.{aGrant, iouText};
 ghost use Rattle.protocol.specs.Table.{decodeTable, recAt};
-ghost use Rattle.protocol.specs.Steps.{put, remove, successOf, granted, finished, finishAt, finish};
+ghost use Rattle.protocol.specs.Steps.{put, remove, successOf, turned, finished, finishAt, finish};
 ghost use Rattle.protocol.specs.Held.{Lawful, Said, Done};
 ghost use Rattle.finish.specs.Waits.{Waits};
 
@@ -25,17 +25,17 @@ fn tell(table: &[u8], slot: usize, iou: &[u8], out: &mut [u8]) -> Outcome
 // Yes, with room for the IOU's text: told, then a grant.
 fn grant_by(table: &mut [u8], slot: usize, iou: &mut [u8], out: &mut [u8]) -> Outcome
     requires { ⌜ (Waits slot (now table)) × (64 ≤ length (now iou)) × (8192 ≤ length (now out)) ⌝ }
-    ensures { λ r. ⌜ Done (finished (recAt slot (decodeTable (now (table .entry)) .slots)) (iouText (recAt slot (decodeTable (now (table .entry)) .slots) .iou)) (decodeTable (now (table .entry))) (put slot (granted (recAt slot (decodeTable (now (table .entry)) .slots)) (decodeTable (now (table .entry)) .slots)) (decodeTable (now (table .entry))))) r (now (table .exit)) (now (out .entry)) (now (out .exit)) ⌝ }
+    ensures { λ r. ⌜ Done (finished (recAt slot (decodeTable (now (table .entry)) .slots)) (iouText (recAt slot (decodeTable (now (table .entry)) .slots) .iou)) (decodeTable (now (table .entry))) (put slot (turned aGrant (recAt slot (decodeTable (now (table .entry)) .slots)) (decodeTable (now (table .entry)) .slots)) (decodeTable (now (table .entry))))) r (now (table .exit)) (now (out .entry)) (now (out .exit)) ⌝ }
 {
     let n = ticket::put_iou(iou, 0, table::iou_of(table, slot));
     let told = tell(table, slot, &iou[..n], out);
-    table::make_grant(table, slot);
+    table::turn(table, slot, ticket::Grant::KIND);
     told
 }
 
 fn grant(table: &mut [u8], slot: usize, out: &mut [u8]) -> Outcome
     requires { ⌜ (Waits slot (now table)) × (8192 ≤ length (now out)) ⌝ }
-    ensures { λ r. ⌜ Done (finished (recAt slot (decodeTable (now (table .entry)) .slots)) (iouText (recAt slot (decodeTable (now (table .entry)) .slots) .iou)) (decodeTable (now (table .entry))) (put slot (granted (recAt slot (decodeTable (now (table .entry)) .slots)) (decodeTable (now (table .entry)) .slots)) (decodeTable (now (table .entry))))) r (now (table .exit)) (now (out .entry)) (now (out .exit)) ⌝ }
+    ensures { λ r. ⌜ Done (finished (recAt slot (decodeTable (now (table .entry)) .slots)) (iouText (recAt slot (decodeTable (now (table .entry)) .slots) .iou)) (decodeTable (now (table .entry))) (put slot (turned aGrant (recAt slot (decodeTable (now (table .entry)) .slots)) (decodeTable (now (table .entry)) .slots)) (decodeTable (now (table .entry))))) r (now (table .exit)) (now (out .entry)) (now (out .exit)) ⌝ }
 {
     let mut iou = [0u8; 64];
     grant_by(table, slot, &mut iou, out)

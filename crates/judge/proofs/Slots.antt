@@ -1,6 +1,6 @@
 -- Slots of the table's bytes, one after the other, as the code meets them. Assumes nothing.
 use mathlib.Core.Path.{_≡_, refl, sym, ap, _∙_}
-use mathlib.Core.Bool.{Bool, true, false, _&&_, not}
+use mathlib.Core.Bool.{Bool, true, false, _&&_, not, _||_}
 use mathlib.Core.List.{List, [], _∷_}
 use Prim.Native.Nat.{ℕ, zero, suc, _+_, _-_, _*_, _<_, _≤_}
 use native.Mathlib.Nat.{zero-add}
@@ -66,12 +66,12 @@ login-no b k h g e =
     rw (said-block b k h g, ne-eqb (getD (blockAt k b) 0 0) 1 q)
 
 -- a record beside what it names
-pub session-right : (f s : Numbers) {l r : Bool} → l ≡ if (eqb (f .kind) 6) (eqb (f .expiry) (s .expiry)) (leb (f .expiry) (s .expiry))
+pub session-right : (f s : Numbers) {l r : Bool} → l ≡ if (eqb (f .kind) 6 || eqb (f .kind) 7) (eqb (f .expiry) (s .expiry)) (leb (f .expiry) (s .expiry))
     → r ≡ if (ltb (f .kind) 3) (eqb (f .session) 0) (eqb (s .kind) 2 && l) → r ≡ sessionTest f s
 session-right f s a b = b ∙ rw a
 
 pub parent-right : (f p : Numbers) {g q v r : Bool} → g ≡ if (eqb (f .depth) 1) (eqb (f .parent) 0) (eqb (p .kind) 6 && eqb (p .session) (f .session) && eqb (f .depth) (p .depth + 1))
-    → q ≡ if (eqb (f .kind) 4) (eqb (p .kind) 6 && eqb (p .session) (f .session)) g → v ≡ if (eqb (f .kind) 3) (eqb (f .parent) (f .session)) q → r ≡ if (ltb (f .kind) 3) (eqb (f .parent) 0) v
+    → q ≡ if (eqb (f .kind) 4) (eqb (p .kind) 6 && eqb (p .session) (f .session)) g → v ≡ if (eqb (f .kind) 3 || eqb (f .kind) 7) (eqb (f .parent) (f .session)) q → r ≡ if (ltb (f .kind) 3) (eqb (f .parent) 0) v
     → r ≡ parentTest f p
 parent-right f p a b c d = d ∙ rw (c, b, a)
 

@@ -6,7 +6,7 @@ use lib.Dec.{eqb, leb, ltb}
 use lib.ListN.{length, take, drop}
 use Rattle.protocol.specs.Bytes.{if, same, part, num}
 use Rattle.protocol.specs.Blocks.{checkRight}
-use Rattle.protocol.specs.Tickets.{aFree, aLogin, aSession, aService, aProxy, aGrant}
+use Rattle.protocol.specs.Tickets.{aFree, aLogin, aSession, aService, aProxy, aGrant, aVisit}
 use Rattle.protocol.specs.Records.{Rec, freeRec, recBody, ownRight}
 use Rattle.protocol.specs.Table.{decodeTable, headBody, recAt, countKind, serialTaken, sessionRight, parentRight, loginCap, lastTime}
 use Rattle.rules.specs.declared.Numbers.{Numbers}
@@ -27,14 +27,14 @@ abbrev pub sessionTest : Numbers → Numbers → Bool
 sessionTest f s =
     if (ltb (f .kind) aService)
     (eqb (f .session) 0)
-    (eqb (s .kind) aSession && (if (eqb (f .kind) aGrant) (eqb (f .expiry) (s .expiry)) (leb (f .expiry) (s .expiry))))
+    (eqb (s .kind) aSession && (if (eqb (f .kind) aGrant || eqb (f .kind) aVisit) (eqb (f .expiry) (s .expiry)) (leb (f .expiry) (s .expiry))))
 
 -- parentRight, by the numbers of a record and of the parent that it names
 abbrev pub parentTest : Numbers → Numbers → Bool
 parentTest f p =
     if (ltb (f .kind) aService)
     (eqb (f .parent) 0)
-    (if (eqb (f .kind) aService)
+    (if (eqb (f .kind) aService || eqb (f .kind) aVisit)
     (eqb (f .parent) (f .session))
     (if (eqb (f .kind) aProxy)
     (eqb (p .kind) aGrant && eqb (p .session) (f .session))

@@ -47,7 +47,11 @@ fn numbers_at(table: &[u8], n: usize, slot: usize) -> Numbers
 fn session_right(f: Numbers, s: Numbers) -> bool
     ensures { λ r. ⌜ r ≡ sessionTest f s ⌝ }
 {
-    let lasts = rules::pick(f.kind == 6, f.expiry == s.expiry, f.expiry <= s.expiry);
+    let lasts = rules::pick(
+        (f.kind == 6) | (f.kind == 7),
+        f.expiry == s.expiry,
+        f.expiry <= s.expiry,
+    );
     rules::pick(f.kind < 3, f.session == 0, (s.kind == 2) & lasts)
 }
 
@@ -62,7 +66,11 @@ fn parent_right(f: Numbers, p: Numbers) -> bool
     rules::pick(
         f.kind < 3,
         f.parent == 0,
-        rules::pick(f.kind == 3, f.parent == f.session, proxied),
+        rules::pick(
+            (f.kind == 3) | (f.kind == 7),
+            f.parent == f.session,
+            proxied,
+        ),
     )
 }
 

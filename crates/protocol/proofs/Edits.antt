@@ -9,13 +9,13 @@ use borrow.Author.Tests.{eqb-true, eqb-false, ne-eqb, leb-true, ltb-true}
 use lib.Dec.{eqb, leb, ltb}
 use lib.ListN.{length, length-map}
 use Rattle.protocol.specs.Bytes.{if, isEmpty, same}
-use Rattle.protocol.specs.Tickets.{aFree, aLogin, aSession, aService, aProxy, aWaiting, aGrant, deepest, iouText}
+use Rattle.protocol.specs.Tickets.{aFree, aLogin, aSession, aService, aProxy, aWaiting, aGrant, deepest, iouText, aVisit}
 use Rattle.protocol.specs.Records.{Rec, freeRec, nameOf, ownRight, serialRight, expiryRight}
 use Rattle.protocol.specs.Table.{Table, recAt, countKind, loginCap}
 use Rattle.protocol.specs.Register.{registered, callbackOf}
 use Rattle.protocol.specs.Request.{loginNames, logoutNames, proxyNames, validatorNames, bodyNames, malformed, fromQuery, fromBody, present}
 use Rattle.protocol.specs.Answers.{ErrorPage, SignedIn, SignedOut, RedirectTo, YesNo, Failure, ProxyFailure, InvalidRequest, InvalidTicket, InvalidService, BadPgt, UnauthorizedService, InternalError}
-use Rattle.protocol.specs.Steps.{Brought, Step, step, clearRec, endRec, tick, put, remove, endSession, slotNamed, sessionOf, ticketSlot, slotFor, roomFor, newRec, add, formWith, formStep, ticketWith, ticketStep, signedOn, loginPage, unknownService, loginGet, admitted, newSession, needs, issueAll, accepted, credentials, loginTicket, loginPost, failed, isPlain, takesProxies, proxyParent, waitingWith, waitingStep, grants, acceptTicket, judgeTicket, presented, validate, granted, waitingSlot, finished, finishAt, finish, proxyWith, proxyBy, proxy, linkTo, logout, requestStep, successOf}
+use Rattle.protocol.specs.Steps.{Brought, Step, step, clearRec, endRec, tick, put, remove, endSession, slotNamed, sessionOf, ticketSlot, slotFor, roomFor, newRec, add, formWith, formStep, ticketWith, ticketStep, signedOn, loginPage, unknownService, loginGet, admitted, newSession, needs, issueAll, accepted, credentials, loginTicket, loginPost, failed, isPlain, takesProxies, proxyParent, waitingWith, waitingStep, grants, acceptTicket, judgeTicket, presented, validate, turned, waitingSlot, finished, finishAt, finish, proxyWith, proxyBy, proxy, linkTo, logout, requestStep, successOf, leftBy}
 use Rattle.protocol.specs.declared.Method.{Method}
 use Rattle.protocol.specs.declared.Method.the-variants as method
 use Rattle.protocol.specs.declared.Path.{Path}
@@ -176,19 +176,30 @@ module _ (v : Validator) (q : List ℕ) (g : Brought) (r : Rec) (t : Table) wher
       (λ e. choice (grants r url g t) (waitingStep r url (g .random) t) told
       (λ w. adding waiting (serials-left 0 t (both (not (isEmpty url) && same url (callbackOf (r .text) (g .register)) && leb (recAt (proxyParent r) (t .slots) .depth + 1) deepest) (roomFor 1 t) w .1) .0) still) (λ w. still))
 
-  judge-edits : Edits t (judgeTicket v r q g t .table)
-  unfolding judgeTicket url
-  judge-edits =
-      choice (eqb (r .kind) aProxy && not (takesProxies v)) (step t (failed v InvalidTicket))
-      (if (present "renew" q && eqb (r .mark) 0) (step t (failed v InvalidTicket)) (if (same (r .text) (fromQuery "service" q)) (acceptTicket v r url g t) (step t (failed v InvalidService)))) (λ e. still)
-      (λ e. choice (present "renew" q && eqb (r .mark) 0) (step t (failed v InvalidTicket)) (if (same (r .text) (fromQuery "service" q)) (acceptTicket v r url g t) (step t (failed v InvalidService))) (λ w. still)
-      (λ w. choice (same (r .text) (fromQuery "service" q)) (acceptTicket v r url g t) (step t (failed v InvalidService)) (λ s. accept-edits) (λ s. still)))
+left-edits : (k : ℕ) (r : Rec) (t : Table) {u : Table} → Edits (leftBy k r t) u → Edits t u
+unfolding leftBy
+left-edits k r t {u} e = go (eqb (r .kind) aService) e
+  where
+    go : (d : Bool) → Edits (if d (put k (turned aVisit r (t .slots)) t) t) u → Edits t u
+    go true e = putting k (turned aVisit r (t .slots)) e
+    go false e = e
+
+judge-edits : (v : Validator) (q : List ℕ) (g : Brought) (k : ℕ) (r : Rec) (t : Table) → Edits t (judgeTicket v k r q g t .table)
+unfolding judgeTicket url
+judge-edits v q g k r t =
+    choice (eqb (r .kind) aProxy && not (takesProxies v)) (step t (failed v InvalidTicket))
+    (if (present "renew" q && eqb (r .mark) 0) (step t (failed v InvalidTicket)) taken) (λ e. still)
+    (λ e. choice (present "renew" q && eqb (r .mark) 0) (step t (failed v InvalidTicket)) taken (λ w. still)
+    (λ w. choice (same (r .text) (fromQuery "service" q)) (acceptTicket v r (fromQuery "pgtUrl" q) g (leftBy k r t)) (step t (failed v InvalidService)) (λ s. left-edits k r t (accept-edits v q g r (leftBy k r t))) (λ s. still)))
+  where
+    taken : Step
+    taken = if (same (r .text) (fromQuery "service" q)) (acceptTicket v r (fromQuery "pgtUrl" q) g (leftBy k r t)) (step t (failed v InvalidService))
 
 validate-edits : (v : Validator) (q : List ℕ) (g : Brought) (t : Table) → Edits t (validate v q g t .table)
 unfolding validate presented
 validate-edits v q g t =
     choice (malformed false (validatorNames v) q || isEmpty (fromQuery "service" q) || isEmpty (fromQuery "ticket" q)) (step t (failed v InvalidRequest)) (presented v k q g t) (λ e. still)
-    (λ e. choice (eqb k 0) (step t (failed v InvalidTicket)) (judgeTicket v (recAt k (t .slots)) q g (remove k t)) (λ w. still) (λ w. putting k freeRec (judge-edits v q g (recAt k (t .slots)) (remove k t))))
+    (λ e. choice (eqb k 0) (step t (failed v InvalidTicket)) (judgeTicket v k (recAt k (t .slots)) q g (remove k t)) (λ w. still) (λ w. putting k freeRec (judge-edits v q g k (recAt k (t .slots)) (remove k t))))
   where
     k : ℕ
     k = ticketSlot (fromQuery "ticket" q) t
@@ -220,8 +231,8 @@ proxy-edits q g t =
 pub finish-edits : (serial : ℕ) (outcome : Bool) (t : Table) → Edits t (finish serial outcome t .table)
 unfolding finish finishAt finished
 finish-edits serial outcome t =
-    choice (eqb k 0) (step t (Failure InvalidTicket)) (if outcome (finished r (iouText (r .iou)) t (put k (granted r (t .slots)) t)) (finished r [] t (remove k t))) (λ e. still)
-    (λ e. choice outcome (finished r (iouText (r .iou)) t (put k (granted r (t .slots)) t)) (finished r [] t (remove k t)) (λ w. putting k (granted r (t .slots)) still) (λ w. putting k freeRec still))
+    choice (eqb k 0) (step t (Failure InvalidTicket)) (if outcome (finished r (iouText (r .iou)) t (put k (turned aGrant r (t .slots)) t)) (finished r [] t (remove k t))) (λ e. still)
+    (λ e. choice outcome (finished r (iouText (r .iou)) t (put k (turned aGrant r (t .slots)) t)) (finished r [] t (remove k t)) (λ w. putting k (turned aGrant r (t .slots)) still) (λ w. putting k freeRec still))
   where
     k : ℕ
     k = waitingSlot serial t

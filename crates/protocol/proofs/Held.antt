@@ -125,7 +125,7 @@ module _ (b : List ℕ) (k : ℕ) (s : Sound (decodeTable b)) where
     where
       of : ParentView slots said → In (said .parent) b
       of (orphan e) = absurd (omega arith)
-      of (of-session g e) = rw e (session-in (omega arith))
+      of (of-session g n e) = rw e (session-in g)
       of (of-grant l e g) = record-in b (said .parent) (omega arith)
 
 -- Edits

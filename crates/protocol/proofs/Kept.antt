@@ -8,7 +8,7 @@ use borrow.Author.Tests.{ne-eqb, eqb-true, eqb-false, leb-true, le-leb, ltb-true
 use lib.Dec.{eqb, leb, ltb}
 use lib.ListN.{length, getD, set}
 use Rattle.protocol.specs.Bytes.{if}
-use Rattle.protocol.specs.Tickets.{aFree, aSession, aService, aProxy, aGrant, lifetime, markMost, depthLeast, depthMost, textLeast, textMost}
+use Rattle.protocol.specs.Tickets.{aFree, aSession, aService, aProxy, aGrant, aVisit, lifetime, markMost, depthLeast, depthMost, textLeast, textMost}
 use Rattle.protocol.specs.Records.{Rec, freeRec, live, ownRight, fieldsRight, sinceRight, textRight, serialRight, expiryRight}
 use Rattle.protocol.specs.Bytes.{allWithin}
 use Rattle.protocol.specs.Table.{Table, tableOf, recAt, putAt, sessionRight, parentRight, grantRight, allRight, serialTaken, serialsDiffer, countKind, lastTime}
@@ -106,7 +106,11 @@ pub data SessionView (slots : List Rec) (r : Rec) : Type 0 where
   named : 3 ≤ r .kind → recAt (r .session) slots .kind ≡ 2 → r .expiry ≤ recAt (r .session) slots .expiry
       → (r .kind ≡ 6 → r .expiry ≡ recAt (r .session) slots .expiry) → SessionView slots r
 
-session-cases : (slots : List Rec) (r : Rec) (z w : Bool) → ltb (r .kind) aService ≡ z → eqb (r .kind) aGrant ≡ w
+or-first : (a b : Bool) → a || b ≡ false → a ≡ false
+or-first false b e = refl
+or-first true b e = e
+
+session-cases : (slots : List Rec) (r : Rec) (z w : Bool) → ltb (r .kind) aService ≡ z → eqb (r .kind) aGrant || eqb (r .kind) aVisit ≡ w
     → if z (eqb (r .session) 0) (eqb (recAt (r .session) slots .kind) aSession && (if w (eqb (r .expiry) (recAt (r .session) slots .expiry)) (leb (r .expiry) (recAt (r .session) slots .expiry)))) ≡ true
     → SessionView slots r
 session-cases slots r true w h g e = unnamed (ltb-true (r .kind) 3 h) (eqb-true (r .session) 0 e)
@@ -116,16 +120,16 @@ session-cases slots r false true h g e =
     named (ltb-false (r .kind) 3 h) (eqb-true (recAt (r .session) slots .kind) 2 (p .0)) (omega arith) (λ k. q)
 session-cases slots r false false h g e =
     let p = both (eqb (recAt (r .session) slots .kind) aSession) (leb (r .expiry) (recAt (r .session) slots .expiry)) e in
-    named (ltb-false (r .kind) 3 h) (eqb-true (recAt (r .session) slots .kind) 2 (p .0)) (leb-true (r .expiry) (recAt (r .session) slots .expiry) (p .1)) (λ k. absurd (eqb-false (r .kind) 6 g k))
+    named (ltb-false (r .kind) 3 h) (eqb-true (recAt (r .session) slots .kind) 2 (p .0)) (leb-true (r .expiry) (recAt (r .session) slots .expiry) (p .1)) (λ k. absurd (eqb-false (r .kind) 6 (or-first (eqb (r .kind) aGrant) (eqb (r .kind) aVisit) g) k))
 
 pub session-view : (slots : List Rec) (r : Rec) → sessionRight slots r ≡ true → SessionView slots r
 unfolding sessionRight
-session-view slots r e = session-cases slots r (ltb (r .kind) aService) (eqb (r .kind) aGrant) refl refl e
+session-view slots r e = session-cases slots r (ltb (r .kind) aService) (eqb (r .kind) aGrant || eqb (r .kind) aVisit) refl refl e
 
 -- What the parent rule says: none, its session, or a grant of the same session
 pub data ParentView (slots : List Rec) (r : Rec) : Type 0 where
   orphan : r .parent ≡ 0 → ParentView slots r
-  of-session : r .kind ≡ 3 → r .parent ≡ r .session → ParentView slots r
+  of-session : 3 ≤ r .kind → (r .kind ≡ 4 → ⊥) → r .parent ≡ r .session → ParentView slots r
   of-grant : 3 < r .kind → recAt (r .parent) slots .kind ≡ 6 → recAt (r .parent) slots .session ≡ r .session → ParentView slots r
 
 above : (k : ℕ) → 3 ≤ k → (k ≡ 3 → ⊥) → 3 < k
@@ -137,19 +141,20 @@ grant-view slots r h e =
     let p = both (eqb (recAt (r .parent) slots .kind) aGrant) (eqb (recAt (r .parent) slots .session) (r .session)) e in
     of-grant h (eqb-true (recAt (r .parent) slots .kind) 6 (p .0)) (eqb-true (recAt (r .parent) slots .session) (r .session) (p .1))
 
-parent-cases : (slots : List Rec) (r : Rec) (z v w d : Bool) (x : ℕ) → ltb (r .kind) aService ≡ z → eqb (r .kind) aService ≡ v
+parent-cases : (slots : List Rec) (r : Rec) (z v w d : Bool) (x : ℕ) → ltb (r .kind) aService ≡ z → eqb (r .kind) aService || eqb (r .kind) aVisit ≡ v
     → if z (eqb (r .parent) 0) (if v (eqb (r .parent) (r .session)) (if w (grantRight slots r) (if d (eqb (r .parent) 0) (grantRight slots r && eqb (r .depth) x)))) ≡ true
     → ParentView slots r
 parent-cases slots r true v w d x h g e = orphan (eqb-true (r .parent) 0 e)
-parent-cases slots r false true w d x h g e = of-session (eqb-true (r .kind) 3 g) (eqb-true (r .parent) (r .session) e)
-parent-cases slots r false false true d x h g e = grant-view slots r (above (r .kind) (ltb-false (r .kind) 3 h) (eqb-false (r .kind) 3 g)) e
+parent-cases slots r false true w d x h g e =
+    of-session (ltb-false (r .kind) 3 h) (λ q. absurd (let y : _≡_ {A = Bool} false true = rw q at g in let z : _≡_ {A = ℕ} 0 1 = ap (λ (b : Bool). if b 1 0) y in omega arith)) (eqb-true (r .parent) (r .session) e)
+parent-cases slots r false false true d x h g e = grant-view slots r (above (r .kind) (ltb-false (r .kind) 3 h) (eqb-false (r .kind) 3 (or-first (eqb (r .kind) aService) (eqb (r .kind) aVisit) g))) e
 parent-cases slots r false false false true x h g e = orphan (eqb-true (r .parent) 0 e)
 parent-cases slots r false false false false x h g e =
-    grant-view slots r (above (r .kind) (ltb-false (r .kind) 3 h) (eqb-false (r .kind) 3 g)) (both (grantRight slots r) (eqb (r .depth) x) e .0)
+    grant-view slots r (above (r .kind) (ltb-false (r .kind) 3 h) (eqb-false (r .kind) 3 (or-first (eqb (r .kind) aService) (eqb (r .kind) aVisit) g))) (both (grantRight slots r) (eqb (r .depth) x) e .0)
 
 pub parent-view : (slots : List Rec) (r : Rec) → parentRight slots r ≡ true → ParentView slots r
 unfolding parentRight
-parent-view slots r e = parent-cases slots r (ltb (r .kind) aService) (eqb (r .kind) aService) (eqb (r .kind) aProxy) (eqb (r .depth) 1) (recAt (r .parent) slots .depth + 1) refl refl e
+parent-view slots r e = parent-cases slots r (ltb (r .kind) aService) (eqb (r .kind) aService || eqb (r .kind) aVisit) (eqb (r .kind) aProxy) (eqb (r .depth) 1) (recAt (r .parent) slots .depth + 1) refl refl e
 
 -- The clearing
 
@@ -196,7 +201,7 @@ module _ (c c′ n : ℕ) (o : c ≤ c′) (old : List Rec) (all : allRight c n 
 
   parent-stays : (r : Rec) → c′ < r .expiry → SessionView old r → ParentView old r → recAt (r .parent) (map (clearRec c′) old) ≡ recAt (r .parent) old
   parent-stays r l v (orphan e) = none-at (r .parent) e
-  parent-stays r l v (of-session k e) = rw e (session-stays r l v)
+  parent-stays r l v (of-session k n e) = rw e (session-stays r l v)
   parent-stays r l v (of-grant h k s) =
       let w : SessionView old (recAt (r .parent) old) = session-view old (recAt (r .parent) old) (recs3 c n old (recAt (r .parent) old) (right-slot c n old all (r .parent)) .1) in
       stays-at (r .parent) (omega (arith, grant-lasts r (recAt (r .parent) old) h s k v w))
@@ -298,7 +303,7 @@ module _ (c n : ℕ) (old : List Rec) (all : allRight c n old old ≡ true) (k :
 
   not-parent : (recAt k old .kind ≡ 6 → ⊥) → (r : Rec) → SessionView old r → ParentView old r → r .parent ≡ k → ⊥
   not-parent b r v (orphan e) q = omega arith
-  not-parent b r v (of-session h e) q = not-session r v (sym e ∙ q)
+  not-parent b r v (of-session h n e) q = not-session r v (sym e ∙ q)
   not-parent b r v (of-grant h e s) q = b (ap (λ (j : ℕ). recAt j old .kind) (sym q) ∙ e)
 
   pub leaf-unnamed : (recAt k old .kind ≡ 6 → ⊥) → Unnamed k old
@@ -335,7 +340,7 @@ module _ (c n : ℕ) (old : List Rec) (all : allRight c n old old ≡ true) (s :
 
   parent-spared : (r : Rec) → (r .session ≡ s → ⊥) → SessionView old r → ParentView old r → recAt (r .parent) (map (endRec s) old) ≡ recAt (r .parent) old
   parent-spared r h v (orphan e) = rw e
-  parent-spared r h v (of-session k e) = rw e (session-spared r v)
+  parent-spared r h v (of-session k n e) = rw e (session-spared r v)
   parent-spared r h v (of-grant g k e) = spared (r .parent) (λ q. h (sym e ∙ q))
 
   ended-right : (r : Rec) → recRight c n old r ≡ true → (z : Bool) → eqb (r .session) s ≡ z → recRight c n (map (endRec s) old) (if z freeRec r) ≡ true
@@ -359,7 +364,7 @@ module _ (c n : ℕ) (old : List Rec) (all : allRight c n old old ≡ true) (s :
 
   apart : (r : Rec) → (r .session ≡ s → ⊥) → ParentView (map (endRec s) old) r → r .parent ≡ s → ⊥
   apart r h (orphan e) q = omega arith
-  apart r h (of-session k e) q = h (sym e ∙ q)
+  apart r h (of-session k n e) q = h (sym e ∙ q)
   apart r h (of-grant g k e) q = let x : recAt s (map (endRec s) old) .kind ≡ 6 = ap (λ (j : ℕ). recAt j (map (endRec s) old) .kind) (sym q) ∙ k in let y = still in omega arith
 
   pub end-unnamed : Unnamed s (map (endRec s) old)

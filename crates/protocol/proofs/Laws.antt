@@ -296,7 +296,8 @@ mark-most (suc (suc (suc zero))) = omega arith
 mark-most (suc (suc (suc (suc zero)))) = omega arith
 mark-most (suc (suc (suc (suc (suc zero))))) = omega arith
 mark-most (suc (suc (suc (suc (suc (suc zero)))))) = omega arith
-mark-most (suc (suc (suc (suc (suc (suc (suc k))))))) = omega arith
+mark-most (suc (suc (suc (suc (suc (suc (suc zero))))))) = omega arith
+mark-most (suc (suc (suc (suc (suc (suc (suc (suc k)))))))) = omega arith
 
 pub text-most : (k : ℕ) → textMost k ≤ 200
 unfolding textMost
@@ -307,7 +308,8 @@ text-most (suc (suc (suc zero))) = omega arith
 text-most (suc (suc (suc (suc zero)))) = omega arith
 text-most (suc (suc (suc (suc (suc zero))))) = omega arith
 text-most (suc (suc (suc (suc (suc (suc zero)))))) = omega arith
-text-most (suc (suc (suc (suc (suc (suc (suc k))))))) = omega arith
+text-most (suc (suc (suc (suc (suc (suc (suc zero))))))) = omega arith
+text-most (suc (suc (suc (suc (suc (suc (suc (suc k)))))))) = omega arith
 
 -- four tests and more
 pub both5 : (a b c d e : Bool) → a && b && c && d && e ≡ true → (a ≡ true) × (b ≡ true) × (c ≡ true) × (d ≡ true) × (e ≡ true)
@@ -320,7 +322,7 @@ both5 a b c d e h =
 
 -- what the rules of a record by itself say
 pub record Own (clock next : ℕ) (r : Rec) : Type 0 where
-  pub kind : r .kind ≤ 6
+  pub kind : r .kind ≤ 7
   pub mark : r .mark ≤ markMost (r .kind)
   pub shallow : depthLeast (r .kind) ≤ r .depth
   pub deep : r .depth ≤ depthMost (r .kind)
@@ -339,13 +341,13 @@ own c n r h =
     let life : Bool = if (eqb (r .kind) aFree) (eqb (r .serial) 0 && eqb (r .expiry) 0) (serialRight n (r .serial) && expiryRight c r) in
     let whole = both (fieldsRight r && sinceRight c r) life h in
     let fields = both (fieldsRight r) (sinceRight c r) (whole .0) in
-    let iou = both (leb (r .kind) 6 && leb (r .mark) (markMost (r .kind)) && within (depthLeast (r .kind)) (depthMost (r .kind)) (r .depth) && allWithin 0 0 (drop (secretLength (r .kind)) (r .secret)) && textRight r) (if (eqb (r .kind) aWaiting) true (allWithin 0 0 (r .iou))) (fields .0) in
-    let f = both5 (leb (r .kind) 6) (leb (r .mark) (markMost (r .kind))) (within (depthLeast (r .kind)) (depthMost (r .kind)) (r .depth)) (allWithin 0 0 (drop (secretLength (r .kind)) (r .secret))) (textRight r) (iou .0) in
+    let iou = both (leb (r .kind) 7 && leb (r .mark) (markMost (r .kind)) && within (depthLeast (r .kind)) (depthMost (r .kind)) (r .depth) && allWithin 0 0 (drop (secretLength (r .kind)) (r .secret)) && textRight r) (if (eqb (r .kind) aWaiting) true (allWithin 0 0 (r .iou))) (fields .0) in
+    let f = both5 (leb (r .kind) 7) (leb (r .mark) (markMost (r .kind))) (within (depthLeast (r .kind)) (depthMost (r .kind)) (r .depth)) (allWithin 0 0 (drop (secretLength (r .kind)) (r .secret))) (textRight r) (iou .0) in
     let d = both (leb (depthLeast (r .kind)) (r .depth)) (leb (r .depth) (depthMost (r .kind))) (f .2) in
     let t = both (within (textLeast (r .kind)) (textMost (r .kind)) (length (r .text))) (lettersRight (r .kind) (r .text)) (f .4) in
     let w = both (leb (textLeast (r .kind)) (length (r .text))) (leb (length (r .text)) (textMost (r .kind))) (t .0) in
     record {
-      kind = leb-true (r .kind) 6 (f .0);
+      kind = leb-true (r .kind) 7 (f .0);
       mark = leb-true (r .mark) (markMost (r .kind)) (f .1);
       shallow = leb-true (depthLeast (r .kind)) (r .depth) (d .0);
       deep = leb-true (r .depth) (depthMost (r .kind)) (d .1);

@@ -14,7 +14,7 @@ use Rattle.protocol.specs.Table.{Table, recAt, countKind, loginCap}
 use Rattle.protocol.specs.Register.{registered}
 use Rattle.protocol.specs.Request.{loginNames, logoutNames, proxyNames, validatorNames, bodyNames, malformed, badName, valueRight, valueMost, charsRight, valueOf, fromQuery, fromBody, present}
 use Rattle.protocol.specs.Answers.{Code, Reply, ErrorPage, SignedIn, SignedOut, FormPage, RedirectTo, YesNo, Failure, ProxySuccess, ProxyFailure, CallbackTo, InvalidRequest, InvalidTicket, InvalidService, BadPgt, UnauthorizedService, InternalError}
-use Rattle.protocol.specs.Steps.{Brought, Step, step, put, remove, endSession, slotNamed, sessionOf, ticketSlot, slotFor, roomFor, newRec, add, chainFrom, chainOf, formWith, formStep, ticketWith, ticketStep, signedOn, loginPage, unknownService, loginGet, admitted, newSession, needs, issueAll, accepted, credentials, loginTicket, loginPost, failed, isPlain, takesProxies, proxyParent, waitingWith, waitingStep, grants, acceptTicket, judgeTicket, presented, validate, granted, waitingSlot, finished, finishAt, finish, proxyWith, proxyBy, proxy, linkTo, logout, requestStep, successOf}
+use Rattle.protocol.specs.Steps.{Brought, Step, step, put, remove, endSession, slotNamed, sessionOf, ticketSlot, slotFor, roomFor, newRec, add, chainFrom, chainOf, formWith, formStep, ticketWith, ticketStep, signedOn, loginPage, unknownService, loginGet, admitted, newSession, needs, issueAll, accepted, credentials, loginTicket, loginPost, failed, isPlain, takesProxies, proxyParent, waitingWith, waitingStep, grants, acceptTicket, judgeTicket, presented, validate, turned, waitingSlot, finished, finishAt, finish, proxyWith, proxyBy, proxy, linkTo, logout, requestStep, successOf, leftBy}
 use Rattle.protocol.specs.declared.Method.{Method}
 use Rattle.protocol.specs.declared.Method.the-variants as method
 use Rattle.protocol.specs.declared.Path.{Path}
@@ -24,7 +24,7 @@ use Rattle.protocol.specs.declared.Validator.the-variants as validator
 use Rattle.protocol.proofs.Laws.{both, part-long}
 use Rattle.protocol.proofs.Sound.{Sound, fit-slot}
 use Rattle.protocol.proofs.StepSound.{query-service, body-values, or-both, good-value, nonzero}
-use Rattle.protocol.proofs.TicketSound.{GoodUrl, url-good, owned, ticket-live, spent-sound}
+use Rattle.protocol.proofs.TicketSound.{GoodUrl, url-good, owned, ticket-live, spent-sound, left-sound}
 use Rattle.protocol.proofs.Sizes.{Small, error, in-page, out-page, form, away, word, success, failure, ticket, refusal, call, AllShort, name-most, iou-most}
 use borrow.Author.Tests.{eqb-false}
 
@@ -64,7 +64,8 @@ module _ (t : Table) (s : Sound t) where
   depth-most (suc (suc (suc (suc zero)))) = omega arith
   depth-most (suc (suc (suc (suc (suc zero))))) = omega arith
   depth-most (suc (suc (suc (suc (suc (suc zero)))))) = omega arith
-  depth-most (suc (suc (suc (suc (suc (suc (suc k))))))) = omega arith
+  depth-most (suc (suc (suc (suc (suc (suc (suc zero))))))) = omega arith
+  depth-most (suc (suc (suc (suc (suc (suc (suc (suc k)))))))) = omega arith
 
   pub success-fits : (t′ : Table) (k m p : ℕ) (iou : List ℕ) → length iou ≤ 64 → Fitting (step t′ (successOf k m iou p (t .slots)))
   unfolding chainOf
@@ -249,18 +250,18 @@ module _ (p : Validator) (q : List ℕ) (g : Brought) (h : length (g .random) �
       other : Step
       other = step t (successOf (r .session) (r .mark) [] (proxyParent r) (t .slots))
 
-  judge-fits : (t : Table) (r : Rec) → Sound t → Fitting (judgeTicket p r q g t)
+  judge-fits : (k : ℕ) (t : Table) (r : Rec) → Sound (leftBy k r t) → Fitting (judgeTicket p k r q g t)
   unfolding judgeTicket
-  judge-fits t r s =
+  judge-fits k t r s =
       case-fits (eqb (r .kind) aProxy && not (takesProxies p)) (step t (failed p InvalidTicket)) rest₁ (λ e. fails InvalidTicket)
       (λ e. case-fits (present "renew" q && eqb (r .mark) 0) (step t (failed p InvalidTicket)) rest₂ (λ e. fails InvalidTicket)
-      (λ e. case-fits (same (r .text) (fromQuery "service" q)) (acceptTicket p r url g t) (step t (failed p InvalidService)) (λ e. accept-fits t r s) (λ e. fails InvalidService)))
+      (λ e. case-fits (same (r .text) (fromQuery "service" q)) (acceptTicket p r url g (leftBy k r t)) (step t (failed p InvalidService)) (λ e. accept-fits (leftBy k r t) r s) (λ e. fails InvalidService)))
     where
       fails : (c : Code) → Fitting (step t (failed p c))
       fails c = plain t (failed p c) (failed-small p c)
 
       rest₂ : Step
-      rest₂ = if (same (r .text) (fromQuery "service" q)) (acceptTicket p r url g t) (step t (failed p InvalidService))
+      rest₂ = if (same (r .text) (fromQuery "service" q)) (acceptTicket p r url g (leftBy k r t)) (step t (failed p InvalidService))
 
       rest₁ : Step
       rest₁ = if (present "renew" q && eqb (r .mark) 0) (step t (failed p InvalidTicket)) rest₂
@@ -272,8 +273,8 @@ validate-fits p q g t h s =
     (λ e. plain t (failed p InvalidRequest) (failed-small p InvalidRequest))
     (λ e. let a = or-both (malformed false (validatorNames p) q || isEmpty (fromQuery "service" q)) (isEmpty (fromQuery "ticket" q)) e in
     let b = or-both (malformed false (validatorNames p) q) (isEmpty (fromQuery "service" q)) (a .0) in
-    case-fits (eqb k 0) (step t (failed p InvalidTicket)) (judgeTicket p (recAt k (t .slots)) q g (remove k t)) (λ e. plain t (failed p InvalidTicket) (failed-small p InvalidTicket))
-    (λ n. judge-fits p q g h (λ m. url-good p q m (b .0)) (remove k t) (recAt k (t .slots)) (spent-sound t s k (ticket-live (fromQuery "ticket" q) t (nonzero k (eqb-false k 0 n))))))
+    case-fits (eqb k 0) (step t (failed p InvalidTicket)) (judgeTicket p k (recAt k (t .slots)) q g (remove k t)) (λ e. plain t (failed p InvalidTicket) (failed-small p InvalidTicket))
+    (λ n. judge-fits p q g h (λ m. url-good p q m (b .0)) k (remove k t) (recAt k (t .slots)) (left-sound t s k (ticket-live (fromQuery "ticket" q) t (nonzero k (eqb-false k 0 n))))))
   where
     k : ℕ
     k = ticketSlot (fromQuery "ticket" q) t
@@ -296,7 +297,7 @@ finish-fits serial outcome t s =
     r = recAt k (t .slots)
 
     granted-table : Table
-    granted-table = put k (granted r (t .slots)) t
+    granted-table = put k (turned aGrant r (t .slots)) t
 
 -- every request
 

@@ -120,7 +120,8 @@ lifetime-most (suc (suc (suc zero))) = omega arith
 lifetime-most (suc (suc (suc (suc zero)))) = omega arith
 lifetime-most (suc (suc (suc (suc (suc zero))))) = omega arith
 lifetime-most (suc (suc (suc (suc (suc (suc zero)))))) = omega arith
-lifetime-most (suc (suc (suc (suc (suc (suc (suc k))))))) = omega arith
+lifetime-most (suc (suc (suc (suc (suc (suc (suc zero))))))) = omega arith
+lifetime-most (suc (suc (suc (suc (suc (suc (suc (suc k)))))))) = omega arith
 
 expiry-most : (z : Bool) (a b : ℕ) → if z a (min a b) ≤ a
 expiry-most true a b = omega arith
@@ -168,7 +169,7 @@ long-tail random h = tail-zero (part 0 16 random) 16 (part-long 0 16 random (ome
 
 -- what a kind asks of the secret and IOU of a new record
 pub record Kind (kind : ℕ) (random : List ℕ) : Type 0 where
-  pub known : kind ≤ 6
+  pub known : kind ≤ 7
   pub taken : eqb kind aFree ≡ false
   pub rest : allWithin 0 0 (drop (secretLength kind) (padTo 16 (secretFrom kind random))) ≡ true
   pub iou : if (eqb kind aWaiting) true (allWithin 0 0 (iouFrom kind random)) ≡ true
@@ -219,7 +220,7 @@ pub new-own : (kind mark parent session depth : ℕ) (text random : List ℕ) (t
 unfolding ownRight fieldsRight sinceRight sinceFrom textRight newRec expiryRight expiryFor
 new-own kind mark parent session depth text random t k hm hd hd′ ht ht′ hw hx h g =
     rw (
-      le-leb kind 6 (k .known),
+      le-leb kind 7 (k .known),
       le-leb mark (markMost kind) hm,
       le-leb (depthLeast kind) depth hd,
       le-leb depth (depthMost kind) hd′,

@@ -50,6 +50,7 @@ new-session kind mark parent s depth text random t h g p e =
       le-ltb kind 3 h,
       eq-eqb (recAt s (t .slots) .kind) 2 e,
       ne-eqb kind 6 (λ z. omega arith),
+      ne-eqb kind 7 (λ z. omega arith),
       le-leb (if (eqb s 0) (t .clock + lifetime kind) (min (t .clock + lifetime kind) (recAt s (t .slots) .expiry))) (recAt s (t .slots) .expiry) (session-expiry s (t .clock + lifetime kind) (recAt s (t .slots) .expiry) p),
     )
 

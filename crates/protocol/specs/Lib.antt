@@ -11,6 +11,7 @@ pub mod Calendar
 pub mod Answers
 pub mod Steps
 pub mod Calls
+pub mod Visits
 pub mod Written
 pub mod Held
 pub mod Worked

@@ -9,7 +9,7 @@ use lib.ListN.{length, drop, getD}
 use Rattle.protocol.specs.Utf8.{nameRight}
 use Rattle.protocol.specs.Bytes.{if, within, allWithin, zeros, padTo, part, num, bytesOf}
 use Rattle.protocol.specs.Blocks.{sealed}
-use Rattle.protocol.specs.Tickets.{aFree, aSession, aWaiting, lifetime, secretLength, markMost, depthLeast, depthMost, textLeast, textMost, ticketText}
+use Rattle.protocol.specs.Tickets.{aFree, aSession, aWaiting, aVisit, lifetime, secretLength, markMost, depthLeast, depthMost, textLeast, textMost, ticketText}
 
 pub record Rec : Type 0 where
   pub kind : ℕ
@@ -85,7 +85,7 @@ textRight r = within (textLeast (r .kind)) (textMost (r .kind)) (length (r .text
 -- fields that the kind does not use are zero, the others in range
 unfoldable pub fieldsRight : Rec → Bool
 fieldsRight r =
-    leb (r .kind) 6
+    leb (r .kind) aVisit
     && leb (r .mark) (markMost (r .kind))
     && within (depthLeast (r .kind)) (depthMost (r .kind)) (r .depth)
     && allWithin 0 0 (drop (secretLength (r .kind)) (r .secret))

@@ -4,7 +4,7 @@ use mathlib.Core.List.{List, [], _∷_, map}
 use Prim.Native.Nat.{ℕ, zero, suc, _+_, _%_, _^_, min, max}
 use lib.Dec.{eqb, leb, ltb}
 use Rattle.protocol.specs.Bytes.{if, isEmpty, same, zeros, padTo}
-use Rattle.protocol.specs.Tickets.{aFree, aLogin, aSession, aService, aProxy, aWaiting, aGrant, deepest, lifetime, secretFrom, iouFrom, sinceFrom, iouText}
+use Rattle.protocol.specs.Tickets.{aFree, aLogin, aSession, aService, aProxy, aWaiting, aGrant, aVisit, deepest, lifetime, secretFrom, iouFrom, sinceFrom, iouText}
 use Rattle.protocol.specs.Records.{Rec, freeRec, nameOf, live}
 use Rattle.protocol.specs.Table.{Table, tableOf, recAt, putAt, slotWhere, countKind, loginCap}
 use Rattle.protocol.specs.Register.{Entry, registered, callbackOf}
@@ -259,46 +259,11 @@ grants r pgtUrl g t =
     && leb (recAt (proxyParent r) (t .slots) .depth + 1) deepest
     && roomFor 1 t
 
--- (6) the ticket r is accepted; t is the table without it
-unfoldable pub acceptTicket : Validator → Rec → List ℕ → Brought → Table → Step
-acceptTicket v r pgtUrl g t =
-    if (isPlain v)
-    (step t (YesNo true))
-    (if (grants r pgtUrl g t)
-    (waitingStep r pgtUrl (g .random) t)
-    (step t (successOf (r .session) (r .mark) [] (proxyParent r) (t .slots))))
-
--- (3) to (6): the ticket r has been removed
-unfoldable pub judgeTicket : Validator → Rec → List ℕ → Brought → Table → Step
-judgeTicket v r q g t =
-    if (eqb (r .kind) aProxy && not (takesProxies v))
-    (step t (failed v InvalidTicket))
-    (if (present "renew" q && eqb (r .mark) 0)
-    (step t (failed v InvalidTicket))
-    (if (same (r .text) (fromQuery "service" q))
-    (acceptTicket v r (fromQuery "pgtUrl" q) g t)
-    (step t (failed v InvalidService))))
-
--- (2) a live service or proxy ticket in slot k, or none
-unfoldable pub presented : Validator → ℕ → List ℕ → Brought → Table → Step
-presented v k q g t =
-    if (eqb k 0)
-    (step t (failed v InvalidTicket))
-    (judgeTicket v (recAt k (t .slots)) q g (remove k t))
-
-unfoldable pub validate : Validator → List ℕ → Brought → Table → Step
-validate v q g t =
-    if (malformed false (validatorNames v) q || isEmpty (fromQuery "service" q) || isEmpty (fromQuery "ticket" q))
-    (step t (failed v InvalidRequest))
-    (presented v (ticketSlot (fromQuery "ticket" q) t) q g t)
-
--- finish
-
--- a waiting grant becomes a grant, with its session's expiry, mark and IOU secret cleared
-unfoldable pub granted : Rec → List Rec → Rec
-granted r slots =
+-- a record changes its kind in place: its mark and IOU secret are cleared, and it lasts as long as its session
+unfoldable pub turned : ℕ → Rec → List Rec → Rec
+turned kind r slots =
     record {
-      kind = aGrant;
+      kind = kind;
       mark = 0;
       parent = r .parent;
       session = r .session;
@@ -311,6 +276,45 @@ granted r slots =
       since = r .since;
     }
 
+-- what an accepted ticket leaves in its slot k, which is free in t: a service ticket its visit, a proxy ticket nothing
+unfoldable pub leftBy : ℕ → Rec → Table → Table
+leftBy k r t = if (eqb (r .kind) aService) (put k (turned aVisit r (t .slots)) t) t
+
+-- (6) the ticket r is accepted; t is the table with what it left
+unfoldable pub acceptTicket : Validator → Rec → List ℕ → Brought → Table → Step
+acceptTicket v r pgtUrl g t =
+    if (isPlain v)
+    (step t (YesNo true))
+    (if (grants r pgtUrl g t)
+    (waitingStep r pgtUrl (g .random) t)
+    (step t (successOf (r .session) (r .mark) [] (proxyParent r) (t .slots))))
+
+-- (3) to (6): the ticket r has been removed from slot k
+unfoldable pub judgeTicket : Validator → ℕ → Rec → List ℕ → Brought → Table → Step
+judgeTicket v k r q g t =
+    if (eqb (r .kind) aProxy && not (takesProxies v))
+    (step t (failed v InvalidTicket))
+    (if (present "renew" q && eqb (r .mark) 0)
+    (step t (failed v InvalidTicket))
+    (if (same (r .text) (fromQuery "service" q))
+    (acceptTicket v r (fromQuery "pgtUrl" q) g (leftBy k r t))
+    (step t (failed v InvalidService))))
+
+-- (2) a live service or proxy ticket in slot k, or none
+unfoldable pub presented : Validator → ℕ → List ℕ → Brought → Table → Step
+presented v k q g t =
+    if (eqb k 0)
+    (step t (failed v InvalidTicket))
+    (judgeTicket v k (recAt k (t .slots)) q g (remove k t))
+
+unfoldable pub validate : Validator → List ℕ → Brought → Table → Step
+validate v q g t =
+    if (malformed false (validatorNames v) q || isEmpty (fromQuery "service" q) || isEmpty (fromQuery "ticket" q))
+    (step t (failed v InvalidRequest))
+    (presented v (ticketSlot (fromQuery "ticket" q) t) q g t)
+
+-- finish
+
 -- the slot of the live waiting grant of a serial, or 0
 unfoldable pub waitingSlot : ℕ → Table → ℕ
 waitingSlot serial t = slotWhere (λ (r : Rec). eqb (r .kind) aWaiting && live (t .clock) r && eqb (r .serial) serial) (t .slots)
@@ -319,12 +323,13 @@ waitingSlot serial t = slotWhere (λ (r : Rec). eqb (r .kind) aWaiting && live (
 unfoldable pub finished : Rec → List ℕ → Table → Table → Step
 finished r iou old t = step t (successOf (r .session) (r .mark) iou (r .parent) (old .slots))
 
+-- a waiting grant becomes a grant, or goes
 unfoldable pub finishAt : ℕ → Rec → Bool → Table → Step
 finishAt k r outcome t =
     if (eqb k 0)
     (step t (Failure InvalidTicket))
     (if outcome
-    (finished r (iouText (r .iou)) t (put k (granted r (t .slots)) t))
+    (finished r (iouText (r .iou)) t (put k (turned aGrant r (t .slots)) t))
     (finished r [] t (remove k t)))
 
 unfoldable pub finish : ℕ → Bool → Table → Step

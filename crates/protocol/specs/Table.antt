@@ -7,7 +7,7 @@ use lib.Dec.{eqb, leb, ltb}
 use lib.ListN.{length, drop, getD, set, replicate}
 use Rattle.protocol.specs.Bytes.{if, ascii, same, within, zeros, num, bytesOf, joined, blocks}
 use Rattle.protocol.specs.Blocks.{sealed}
-use Rattle.protocol.specs.Tickets.{aFree, aLogin, aSession, aService, aProxy, aGrant}
+use Rattle.protocol.specs.Tickets.{aFree, aLogin, aSession, aService, aProxy, aGrant, aVisit}
 use Rattle.protocol.specs.Records.{Rec, freeRec, encodeRec, decodeRec, ownRight}
 
 pub record Table : Type 0 where
@@ -61,13 +61,13 @@ unfoldable pub serialsDiffer : List Rec → Bool
 serialsDiffer [] = true
 serialsDiffer (r ∷ rs) = (eqb (r .kind) aFree || not (serialTaken (r .serial) rs)) && serialsDiffer rs
 
--- a session is named: none by free records, logins and sessions; else a live one that lasts as long, and equally long for a grant
+-- a session is named: none by free records, logins and sessions; else a live one that lasts as long, and equally long for a grant or a visit
 unfoldable pub sessionRight : List Rec → Rec → Bool
 sessionRight slots r =
     if (ltb (r .kind) aService)
     (eqb (r .session) 0)
     (eqb (recAt (r .session) slots .kind) aSession
-    && (if (eqb (r .kind) aGrant)
+    && (if (eqb (r .kind) aGrant || eqb (r .kind) aVisit)
     (eqb (r .expiry) (recAt (r .session) slots .expiry))
     (leb (r .expiry) (recAt (r .session) slots .expiry))))
 
@@ -75,12 +75,12 @@ sessionRight slots r =
 unfoldable pub grantRight : List Rec → Rec → Bool
 grantRight slots r = eqb (recAt (r .parent) slots .kind) aGrant && eqb (recAt (r .parent) slots .session) (r .session)
 
--- a parent: none for free records, logins and sessions; 3 its session; 4 a grant; 5 and 6 none at depth 1, else a grant one less deep
+-- a parent: none for free records, logins and sessions; 3 and 7 their session; 4 a grant; 5 and 6 none at depth 1, else a grant one less deep
 unfoldable pub parentRight : List Rec → Rec → Bool
 parentRight slots r =
     if (ltb (r .kind) aService)
     (eqb (r .parent) 0)
-    (if (eqb (r .kind) aService)
+    (if (eqb (r .kind) aService || eqb (r .kind) aVisit)
     (eqb (r .parent) (r .session))
     (if (eqb (r .kind) aProxy)
     (grantRight slots r)

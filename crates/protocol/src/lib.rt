@@ -1,5 +1,5 @@
-// The types of the interface: what a request is, what a call answers, and what reading a form gives. And dates,
-// of which meaning and code speak alike.
+// The types of the interface: what a request is, what a call answers, and what reading a form or asking for a
+// visit gives. And dates, of which meaning and code speak alike.
 
 pub enum Method {
     Get,
@@ -50,6 +50,12 @@ pub struct Form {
     pub refusal: u32,
     pub username_length: usize,
     pub password_length: usize,
+}
+
+// The result of a question for a visit.
+pub struct Visit {
+    pub refusal: u32,
+    pub length: usize,
 }
 
 // A day by its place in the year, from 0.

@@ -4,6 +4,7 @@ ghost use mathlib.Core.Bool.{_&&_, not};
 ghost use lib.Dec.{leb};
 ghost use Rattle.protocol.specs.Table.{tableLawful, lastTime};
 ghost use Rattle.protocol.specs.Calls.{unless, sizesRight, requestFits, answerRefusal, finishRefusal, formatRefusal, checkOf};
+ghost use Rattle.protocol.specs.Visits.{visitUnless};
 
 // The latest time, 2^40 seconds.
 const LAST: u64 = 1099511627776;
@@ -68,10 +69,11 @@ pub fn of_answer(
     1
 }
 
-fn after_table(time: u64, out: usize) -> u32
-    ensures { λ r. ⌜ r ≡ unless (leb 8192 out) 4 (unless (leb time lastTime) 6 0) ⌝ }
+// Numbers 4, by a test of the sizes, and 6.
+fn after_table(time: u64, fits: bool) -> u32
+    ensures { λ r. ⌜ r ≡ unless fits 4 (unless (leb time lastTime) 6 0) ⌝ }
 {
-    if 8192 <= out {
+    if fits {
         if time <= LAST {
             return 0;
         }
@@ -86,7 +88,20 @@ pub fn of_finish(table: &[u8], time: u64, out: usize) -> u32
 {
     if judge::shape_right(table.len()) {
         if judge::table_lawful(table) {
-            return after_table(time, out);
+            return after_table(time, 8192 <= out);
+        }
+        return 2;
+    }
+    1
+}
+
+// A visit: 1, 2, 4 for the output and the random input, 6. That there is none of its number is told later.
+pub fn of_visit(table: &[u8], time: u64, random: usize, out: usize) -> u32
+    ensures { λ r. ⌜ r ≡ visitUnless (now (table .entry)) time random out 0 ⌝ }
+{
+    if judge::shape_right(table.len()) {
+        if judge::table_lawful(table) {
+            return after_table(time, (8192 <= out) & (random == 48));
         }
         return 2;
     }

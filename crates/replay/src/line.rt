@@ -2,6 +2,7 @@
 use protocol::Answer;
 use protocol::Form;
 use protocol::Outcome;
+use protocol::Visit;
 ghost use Prim.Native.Nat.{_≤_, _<_, _+_};
 ghost use lib.ListN.{length};
 use super::frame::part;
@@ -104,6 +105,16 @@ pub fn say_form(form: Form, username: &[u8], password: &[u8]) {
     say_bytes(password, form.password_length);
     say_sum(username);
     say_sum(password);
+    end_line();
+}
+
+pub fn say_visit(visit: Visit, out: &[u8], table: &[u8]) {
+    say_letter(b'V');
+    say_number(visit.refusal as u64);
+    say_number(visit.length as u64);
+    say_bytes(out, visit.length);
+    say_sum(out);
+    say_sum(table);
     end_line();
 }
 

@@ -10,11 +10,14 @@
 //   A  u8 post, u64 time, u8 verdict, u32, u32, bytes target, bytes body, bytes cookie, bytes random
 //                                                 answer, with output and cookie output of these sizes
 //   N  u32 serial, u8 outcome, u64 time, u32      finish, with an output of this size
+//   V  u32 number, u64 time, u32, bytes cookie, bytes random
+//                                                 visit, with an output of this size
 //
 // Room: a table of 70,000 bytes, texts of 65,536 in a frame, an output of 16,384, any other lent buffer of 4,096.
 mod answer;
 mod frame;
 mod line;
+mod visit;
 
 use answer::answer;
 use frame::CUT;
@@ -30,6 +33,7 @@ use frame::within;
 use line::say_finish;
 use line::say_form;
 use line::say_table;
+use visit::visit;
 ghost use Prim.Native.Nat.{_<_};
 
 // How many bytes table and register have, and whether to go on.
@@ -108,6 +112,7 @@ fn step_on_table(letter: u8, held: Held, table: &mut [u8]) -> Held {
         b'C' => check(held, table),
         b'R' => read_form(held),
         b'N' => finish(held, table),
+        b'V' => visit(held, table),
         _ => unknown(),
     }
 }

@@ -64,7 +64,7 @@ unfolding ownRight fieldsRight recTextRight serialRight expiryRight decodeRec li
 own-limits c n b h =
     let k : ℕ = getD b 0 0 in
     rw (text-length b k (num 40 2 b) h, drop-part b 24 16 (secretLength k) (secret-most k) (omega arith))
-    (limits-first (leb k 6) (leb (getD b 1 0) (markMost k)) (within (depthLeast k) (depthMost k) (getD b 6 0)) _ (within (textLeast k) (textMost k) (num 40 2 b)) _ _ _ _)
+    (limits-first (leb k 7) (leb (getD b 1 0) (markMost k)) (within (depthLeast k) (depthMost k) (getD b 6 0)) _ (within (textLeast k) (textMost k) (num 40 2 b)) _ _ _ _)
 
 module _ (b : List ℕ) (h : length b ≡ 512) (y : (i : ℕ) → getD b i 0 < 256) where
   fits : (m : ℕ) → m ≤ 512 → m ≤ length b
@@ -116,21 +116,21 @@ module _ (b : List ℕ) (h : length b ≡ 512) (y : (i : ℕ) → getD b i 0 < 2
 
 -- What the code knows at its returns
 
-pub limits-high : (f : Numbers) (n : ℕ) → 6 < f .kind → false ≡ limitsRight f n
+pub limits-high : (f : Numbers) (n : ℕ) → 7 < f .kind → false ≡ limitsRight f n
 unfolding limitsRight
-limits-high f n h = rw (lt-leb (f .kind) 6 h)
+limits-high f n h = rw (lt-leb (f .kind) 7 h)
 
-pub limits-low : (f : Numbers) (n : ℕ) {m dl dm tl tm : ℕ} → f .kind ≤ 6 → m ≡ markMost (f .kind) → dl ≡ depthLeast (f .kind) → dm ≡ depthMost (f .kind) → tl ≡ textLeast (f .kind) → tm ≡ textMost (f .kind)
+pub limits-low : (f : Numbers) (n : ℕ) {m dl dm tl tm : ℕ} → f .kind ≤ 7 → m ≡ markMost (f .kind) → dl ≡ depthLeast (f .kind) → dm ≡ depthMost (f .kind) → tl ≡ textLeast (f .kind) → tm ≡ textMost (f .kind)
     → leb (f .mark) m && (leb dl (f .depth) && leb (f .depth) dm) && (leb tl n && leb n tm) ≡ limitsRight f n
 unfolding limitsRight
-limits-low f n h a b c d e = rw (le-leb (f .kind) 6 h, a, b, c, d, e)
+limits-low f n h a b c d e = rw (le-leb (f .kind) 7 h, a, b, c, d, e)
 
 -- within the limits the text is short
 pub limits-short : (f : Numbers) (n : ℕ) {good : Bool} → good ≡ limitsRight f n → good ≡ true → n ≤ 200
 unfolding limitsRight
 limits-short f n e g =
     let k : ℕ = f .kind in
-    let p = both (leb k 6) (leb (f .mark) (markMost k) && within (depthLeast k) (depthMost k) (f .depth) && within (textLeast k) (textMost k) n) (sym e ∙ g) in
+    let p = both (leb k 7) (leb (f .mark) (markMost k) && within (depthLeast k) (depthMost k) (f .depth) && within (textLeast k) (textMost k) n) (sym e ∙ g) in
     let q = both (leb (f .mark) (markMost k) && within (depthLeast k) (depthMost k) (f .depth)) (within (textLeast k) (textMost k) n) (p .1) in
     let t = both (leb (textLeast k) n) (leb n (textMost k)) (q .1) in
     let m : n ≤ textMost k = leb-true n (textMost k) (t .1) in

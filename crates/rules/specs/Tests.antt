@@ -14,7 +14,7 @@ numbersOf r = record { kind = r .kind; mark = r .mark; parent = r .parent; sessi
 -- mark, depth and length of text are as the kind allows
 unfoldable pub limitsRight : Numbers → ℕ → Bool
 limitsRight f n =
-    leb (f .kind) 6
+    leb (f .kind) 7
     && (leb (f .mark) (markMost (f .kind))
     && within (depthLeast (f .kind)) (depthMost (f .kind)) (f .depth)
     && within (textLeast (f .kind)) (textMost (f .kind)) n)

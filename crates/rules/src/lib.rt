@@ -32,42 +32,42 @@ pub fn pick(which: bool, a: bool, b: bool) -> bool
 // ---- what a kind's record may say, by the kind's number
 
 fn mark_most(kind: u8) -> u8
-    requires { ⌜ kind ≤ 6 ⌝ }
+    requires { ⌜ kind ≤ 7 ⌝ }
     ensures { λ r. ⌜ r ≡ markMost kind ⌝ }
 {
-    let row = [0u8, 0, 0, 1, 0, 1, 0];
+    let row = [0u8, 0, 0, 1, 0, 1, 0, 0];
     row[kind as usize]
 }
 
 fn depth_least(kind: u8) -> u8
-    requires { ⌜ kind ≤ 6 ⌝ }
+    requires { ⌜ kind ≤ 7 ⌝ }
     ensures { λ r. ⌜ r ≡ depthLeast kind ⌝ }
 {
-    let row = [0u8, 0, 0, 0, 0, 1, 1];
+    let row = [0u8, 0, 0, 0, 0, 1, 1, 0];
     row[kind as usize]
 }
 
 fn depth_most(kind: u8) -> u8
-    requires { ⌜ kind ≤ 6 ⌝ }
+    requires { ⌜ kind ≤ 7 ⌝ }
     ensures { λ r. ⌜ r ≡ depthMost kind ⌝ }
 {
-    let row = [0u8, 0, 0, 0, 0, 4, 4];
+    let row = [0u8, 0, 0, 0, 0, 4, 4, 0];
     row[kind as usize]
 }
 
 fn text_least(kind: u8) -> u16
-    requires { ⌜ kind ≤ 6 ⌝ }
+    requires { ⌜ kind ≤ 7 ⌝ }
     ensures { λ r. ⌜ r ≡ textLeast kind ⌝ }
 {
-    let row = [0u16, 0, 1, 1, 1, 1, 1];
+    let row = [0u16, 0, 1, 1, 1, 1, 1, 1];
     row[kind as usize]
 }
 
 fn text_most(kind: u8) -> u16
-    requires { ⌜ kind ≤ 6 ⌝ }
+    requires { ⌜ kind ≤ 7 ⌝ }
     ensures { λ r. ⌜ r ≡ textMost kind ⌝ }
 {
-    let row = [0u16, 0, 64, 200, 200, 200, 200];
+    let row = [0u16, 0, 64, 200, 200, 200, 200, 200];
     row[kind as usize]
 }
 
@@ -92,7 +92,7 @@ pub fn numbers_of(block: &[u8]) -> Numbers
 fn limits_right(f: Numbers, length: u16) -> bool
     ensures { λ r. ⌜ r ≡ limitsRight f length ⌝ }
 {
-    if 6 < f.kind {
+    if 7 < f.kind {
         return false;
     }
     (f.mark <= mark_most(f.kind))

@@ -8,7 +8,8 @@ use lib.ListN.{length}
 use borrow.Author.Tests.{eqb-true, eqb-false, eq-eqb, ne-eqb}
 use Rattle.protocol.specs.Table.{tableShape, tableLawful}
 use Rattle.protocol.specs.Calls.{Inputs, Result, refusal, answerOf, finishRefusal, finishOf, Numbered, formatRefusal, formatOf, checkOf, FormRead, formRefusal, formOf}
-use Rattle.signon.specs.Promise.{Formats, Checks, Reads, Answers, Finishes}
+use Rattle.protocol.specs.Visits.{visitRefusal, VisitRead, visitOf}
+use Rattle.signon.specs.Promise.{Formats, Checks, Reads, Answers, Finishes, Visits}
 
 -- refused, or not
 by-number : {C : Type 0} (n : ℕ) → (n ≡ 0 → C) → ((n ≡ 0 → ⊥) → C) → C
@@ -69,3 +70,14 @@ module _ (table : List ℕ) (serial : ℕ) (outcome : Bool) (time : ℕ) (out : 
   unfolding finishOf
   finish-promised o e =
       record { refused = λ h. e ∙ rw (ne-eqb (finishRefusal table time (length out)) 0 h); answered = λ z. e ∙ rw (eq-eqb (finishRefusal table time (length out)) 0 z) }
+
+module _ (table cookie : List ℕ) (number time : ℕ) (random out : List ℕ) where
+  abbrev number-of : ℕ
+  number-of = visitRefusal table cookie number time (length random) (length out)
+
+  pub visit-determined : (o o′ : VisitRead) → Visits table cookie number time random out o → Visits table cookie number time random out o′ → o ≡ o′
+  visit-determined o o′ p q = by-number number-of (λ z. p .answered z ∙ sym (q .answered z)) (λ h. p .refused h ∙ sym (q .refused h))
+
+  pub visit-promised : (o : VisitRead) → o ≡ visitOf table cookie number time random out → Visits table cookie number time random out o
+  unfolding visitOf
+  visit-promised o e = record { refused = λ h. e ∙ rw (ne-eqb number-of 0 h); answered = λ z. e ∙ rw (eq-eqb number-of 0 z) }

@@ -1,21 +1,22 @@
 -- The calls: refused with nothing written, or answered on the table after the clock. Assumes nothing.
 use mathlib.Core.Path.{_≡_, sym, ap, _∙_}
-use mathlib.Core.Bool.{Bool, true, false}
+use mathlib.Core.Bool.{Bool, true, false, _&&_}
 use mathlib.Core.List.{List, []}
 use Prim.Native.Nat.{ℕ, _-_, _/_, _≤_}
 use native.Mathlib.Omega.{arith}
-use borrow.Author.Tests.{eq-eqb, ne-eqb, leb-true}
-use lib.Dec.{leb}
+use borrow.Author.Tests.{eq-eqb, ne-eqb, eqb-true, leb-true}
+use lib.Dec.{eqb, leb}
 use lib.ListN.{length}
 use Rattle.protocol.specs.Table.{encodeTable, decodeTable, tableShape, tableLawful, lastTime, formatted}
 use Rattle.protocol.specs.Request.{pathNamed, pathPart, queryPart}
 use Rattle.protocol.specs.Steps.{tick, requestStep, finish}
 use Rattle.protocol.specs.Calls.{inputs, result, refusedOutcome, answerRefusal, stepOf, answerOf, numbered, formatRefusal, formatOf, finishRefusal, finishOf, broughtBy}
-use Rattle.protocol.specs.Held.{Holds, Lawful, Done, Did, Lent}
+use Rattle.protocol.specs.Visits.{visitUnless}
+use Rattle.protocol.specs.Held.{Fine, Holds, Lawful, Done, Did, Lent}
 use Rattle.protocol.specs.declared.Method.{Method}
 use Rattle.protocol.specs.declared.Method.the-variants as method
 use Rattle.protocol.specs.declared.Outcome.{Outcome}
-use Rattle.protocol.proofs.Laws.{lawful-rules}
+use Rattle.protocol.proofs.Laws.{both, lawful-rules}
 use Rattle.protocol.proofs.Sound.{sound-lawful, tick-sound}
 use Rattle.protocol.proofs.Held.{sound-held, holds-bytes}
 use Rattle.protocol.proofs.Told.{done-did, did-delivered}
@@ -103,3 +104,26 @@ module _ (t g u b : List ℕ) (n : ℕ) (d o c : List ℕ) {x : ℕ} (e : x ≡ 
       → result y t′ o′ c′ ≡ answerOf (inputs t g m u b k n d v o c)
   unfolding answerOf stepOf
   answer-done m k v h w = did-delivered w ∙ rw (h .is, ← e, eq-eqb x 0 z)
+
+-- visit: what an answered call knows
+module _ (t : List ℕ) (n : ℕ) (d o : List ℕ) {x : ℕ} (e : x ≡ visitUnless t n (length d) (length o) 0) (z : x ≡ 0) where
+  ready : (Lawful t) × (8192 ≤ length o) × (length d ≡ 48) × (n ≤ lastTime)
+  ready =
+      let p1 = passes (tableShape (length t)) 1 _ (omega arith) (sym e ∙ z) in
+      let p2 = passes (tableLawful t) 2 _ (omega arith) (p1 .1) in
+      let p4 = passes (leb 8192 (length o) && eqb (length d) 48) 4 _ (omega arith) (p2 .1) in
+      let p6 = passes (leb n lastTime) 6 0 (omega arith) (p4 .1) in
+      let q = both (leb 8192 (length o)) (eqb (length d) 48) (p4 .0) in
+      (lawful-law t (p1 .0) (p2 .0), leb-true 8192 (length o) (q .0), eqb-true (length d) 48 (q .1), leb-true n lastTime (p6 .0))
+
+  pub visit-fine : Fine t
+  visit-fine = ready .0 .fine
+
+  pub visit-room : 8192 ≤ length o
+  visit-room = ready .1
+
+  pub visit-drawn : length d ≡ 48
+  visit-drawn = ready .2
+
+  pub visit-time : n ≤ lastTime
+  visit-time = ready .3

@@ -8,6 +8,7 @@ use lib.ListN.{length}
 use Rattle.protocol.specs.Table.{tableShape, tableLawful, encodeTable, decodeTable, formatted}
 use Rattle.protocol.specs.Request.{fromBody}
 use Rattle.protocol.specs.Steps.{tick, finish}
+use Rattle.protocol.specs.Visits.{visitRefusal, visitSaid, VisitRead, visitGiven, visitRefused}
 use Rattle.protocol.specs.Calls.{Inputs, Result, refusal, stepOf, delivered, unchanged, finishRefusal, Numbered, numbered, formatRefusal, FormRead, formRefusal, formGiven, formRefused}
 
 -- format: its number, or a fresh table
@@ -35,3 +36,8 @@ pub record Answers (i : Inputs) (o : Result) : Type 0 where
 pub record Finishes (table : List ℕ) (serial : ℕ) (outcome : Bool) (time : ℕ) (out : List ℕ) (o : Result) : Type 0 where
   pub refused : (finishRefusal table time (length out) ≡ 0 → ⊥) → o ≡ unchanged (finishRefusal table time (length out)) table out []
   pub answered : finishRefusal table time (length out) ≡ 0 → o ≡ delivered (finish serial outcome (tick time (decodeTable table))) out []
+
+-- visit: its number, or the two lines of the visit; either way the table is as it was
+pub record Visits (table cookie : List ℕ) (number time : ℕ) (random out : List ℕ) (o : VisitRead) : Type 0 where
+  pub refused : (visitRefusal table cookie number time (length random) (length out) ≡ 0 → ⊥) → o ≡ visitRefused (visitRefusal table cookie number time (length random) (length out)) table out
+  pub answered : visitRefusal table cookie number time (length random) (length out) ≡ 0 → o ≡ visitGiven (visitSaid table cookie number time random) table out

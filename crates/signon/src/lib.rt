@@ -1,13 +1,15 @@
-// The five calls: format a table, check a table, read username and password from a form, answer a request, finish a callback.
-// A host calls these and nothing else. Each takes any bytes: it is refused by number, in the order of the list, and then nothing
+// The six calls: format a table, check a table, read username and password from a form, answer a request, finish a callback, tell a
+// visit. A host calls these and nothing else. Each takes any bytes: it is refused by number, in the order of the list, and then nothing
 // is written; or it does what the protocol says.
 use protocol::Answer;
 use protocol::Form;
 use protocol::Method;
 use protocol::Outcome;
+use protocol::Visit;
 ghost use mathlib.Core.Path.{_≡_};
 ghost use mathlib.Core.List.{[]};
 ghost use Rattle.protocol.specs.Calls.{refusedOutcome, numbered, formatOf, checkOf, formRead, formOf, inputs, result, answerOf, finishOf};
+ghost use Rattle.protocol.specs.Visits.{visitRead, visitOf};
 
 // A refused call's result: its number, all else 0.
 fn refused(number: u32) -> Outcome
@@ -104,4 +106,22 @@ pub fn finish(table: &mut [u8], serial: u32, outcome: bool, time: u64, out: &mut
     }
     edit::tick(table, time);
     finish::finish(table, serial, outcome, out)
+}
+
+// What a panel is to be told of sign-off: the visit of a number, from 0, of the cookie's session. The table is only read.
+pub fn visit(
+    table: &[u8],
+    cookie: &[u8],
+    number: u32,
+    time: u64,
+    random: &[u8],
+    out: &mut [u8],
+) -> Visit
+    ensures { λ r. ⌜ visitRead r (now (table .entry)) (now (out .exit)) ≡ visitOf (now (table .entry)) (now (cookie .entry)) number time (now (random .entry)) (now (out .entry)) ⌝ }
+{
+    let refusal = refuse::of_visit(table, time, random.len(), out.len());
+    if refusal != 0 {
+        return Visit { refusal, length: 0 };
+    }
+    visit::tell(table, cookie, number, time, random, out)
 }

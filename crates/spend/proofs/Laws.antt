@@ -1,4 +1,4 @@
--- The parts of the code are those of the meaning, and the table without the ticket is again lawful. Assumes nothing.
+-- The parts of the code are those of the meaning, and the table with what the ticket left is again lawful. Assumes nothing.
 use mathlib.Core.Path.{_≡_, refl, sym, _∙_}
 use mathlib.Core.Bool.{Bool, true, false, _&&_, not}
 use mathlib.Core.List.{List, [], _∷_}
@@ -13,15 +13,15 @@ use Rattle.protocol.specs.Records.{Rec}
 use Rattle.protocol.specs.Table.{Table, decodeTable, recAt}
 use Rattle.protocol.specs.Register.{callbackOf, decodeRegister}
 use Rattle.protocol.specs.Answers.{InvalidTicket, InvalidService, YesNo, Failure}
-use Rattle.protocol.specs.Steps.{Brought, remove, ticketSlot, roomFor, newRec, failed, takesProxies, proxyParent, waitingWith, successOf}
+use Rattle.protocol.specs.Steps.{Brought, step, remove, leftBy, ticketSlot, roomFor, newRec, failed, takesProxies, proxyParent, waitingWith, successOf}
 use Rattle.protocol.specs.Held.{Lawful, In, Holds, Said, Done}
 use Rattle.protocol.specs.declared.Outcome.{Outcome}
 use Rattle.protocol.specs.declared.Validator.{Validator}
 use Rattle.protocol.specs.declared.Validator.the-variants as validator
 use Rattle.protocol.proofs.Laws.{both, rules-hold}
-use Rattle.protocol.proofs.TicketSound.{Ticket, ticket-live, Base, ParentBase, none-above, grant-above, ticket-base, spent-sound}
+use Rattle.protocol.proofs.TicketSound.{Ticket, ticket-live, Base, ParentBase, none-above, grant-above, left-sound, left-base}
 use Rattle.protocol.proofs.Held.{sound-held}
-use Rattle.protocol.proofs.Told.{said-done, only-said, done-as}
+use Rattle.protocol.proofs.Told.{only-said, done-as}
 use Rattle.protocol.specs.Calls.{bringing}
 use Rattle.find.specs.declared.Found.{Found}
 use Rattle.find.specs.declared.Found.the-variants.{At, Nothing}
@@ -32,10 +32,11 @@ use Rattle.xml.specs.declared.Code.{Code as Written}
 use Rattle.chain.specs.Walk.{Within, Told}
 use Rattle.chain.proofs.Links.{taken-in}
 use Rattle.offer.specs.Offers.{Offer}
-use Rattle.verdict.specs.Verdicts.{verdictOf}
+use Rattle.verdict.specs.Verdicts.{verdictOf, Spendable}
+use Rattle.verdict.proofs.Laws.{shown-live}
 use Rattle.verdict.specs.declared.Verdict.{Verdict}
 use Rattle.verdict.specs.declared.Verdict.the-variants as verdict
-use Rattle.spend.specs.Spends.{Brings, Spendable, mayGrant, grantOrTell, acceptedBy, spentBy, presentedBy}
+use Rattle.spend.specs.Spends.{Brings, mayGrant, grantOrTell, acceptedBy, spentBy, presentedBy}
 
 -- A failure
 
@@ -124,64 +125,66 @@ module _ (v : Validator) (b g url random o service : List ℕ) (s p m : ℕ) (o�
     unfolding acceptedBy
     proxy-done e = done-as (rw e) x
 
--- The table without the ticket
+-- What the ticket leaves
 
-module _ (b : List ℕ) (k : ℕ) (l : Lawful b) (z : Spendable k b) (b′ : List ℕ) (h : Holds b′ (remove k (decodeTable b))) where
+module _ (b : List ℕ) (k : ℕ) (l : Lawful b) (z : Spendable k b) where
   abbrev t : Table
   t = decodeTable b
 
-  live : Ticket t k
-  live = record { some = z .slot .low; least = z .least; most = z .most; lasts = z .lasts }
+  abbrev ticket : Rec
+  ticket = recAt k (t .slots)
 
-  pub spent-lawful : Lawful b′
-  spent-lawful =
-      let s = spent-sound t (sound-held b l) k live in
-      record { fine = h .fine; rules = rw (h .is) (rules-hold (remove k t) (s .rules)) }
+  module _ (b′ : List ℕ) (h : Holds b′ (leftBy k (recAt k (decodeTable b .slots)) (remove k (decodeTable b)))) where
+    pub left-lawful : Lawful b′
+    left-lawful =
+        let s = left-sound t (sound-held b l) k (shown-live b k z) in
+        record { fine = h .fine; rules = rw (h .is) (rules-hold (leftBy k ticket (remove k t)) (s .rules)) }
 
-  stands : Base (remove k t) (proxyParent (recAt k (t .slots))) (recAt k (t .slots) .session)
-  stands = ticket-base t (sound-held b l) k live
+    stands : Base (leftBy k ticket (remove k t)) (proxyParent ticket) (ticket .session)
+    stands = left-base t (sound-held b l) k (shown-live b k z)
 
-  above-within : (p s : ℕ) → ParentBase (remove k t) p s → Within p b′
-  above-within p s (none-above e) = record { high = omega (arith, h .fine .count) }
-  above-within p s (grant-above e q) = let i = taken-in b′ p (rw (h .is) (omega arith)) in record { high = i .high }
+    above-within : (p s : ℕ) → ParentBase (leftBy k ticket (remove k t)) p s → Within p b′
+    above-within p s (none-above e) = record { high = omega (arith, h .fine .count) }
+    above-within p s (grant-above e q) = let i = taken-in b′ p (rw (h .is) (omega arith)) in record { high = i .high }
 
-  -- what its verdict names
-  module _ (v : Validator) (renew : Bool) (service : List ℕ) (x : Verdict) (e : x ≡ verdictOf v renew service (recAt k (t .slots))) (s p m : ℕ) (y : x ≡ verdict.Accepted s p m) where
-    pub names : (s ≡ recAt k (t .slots) .session) × (p ≡ proxyParent (recAt k (t .slots)))
-    unfolding verdictOf
-    names = go (eqb (recAt k (t .slots) .kind) aProxy && not (takesProxies v)) (renew && eqb (recAt k (t .slots) .mark) 0) (same (recAt k (t .slots) .text) service) (sym y ∙ e)
-      where
-        go : (a b c : Bool) → verdict.Accepted s p m ≡ if a verdict.NoTicket (if b verdict.NoTicket (if c (verdict.Accepted (recAt k (t .slots) .session) (proxyParent (recAt k (t .slots))) (recAt k (t .slots) .mark)) verdict.NoService))
-            → (s ≡ recAt k (t .slots) .session) × (p ≡ proxyParent (recAt k (t .slots)))
-        go true b c q = absurd (let w : _≡_ {A = ℕ} 0 1 = cc in omega arith)
-        go false true c q = absurd (let w : _≡_ {A = ℕ} 0 1 = cc in omega arith)
-        go false false true q = (cc, cc)
-        go false false false q = absurd (let w : _≡_ {A = ℕ} 0 1 = cc in omega arith)
+    -- what its verdict names
+    module _ (v : Validator) (renew : Bool) (service : List ℕ) (x : Verdict) (e : x ≡ verdictOf v renew service (recAt k (decodeTable b .slots))) (s p m : ℕ) (y : x ≡ verdict.Accepted s p m) where
+      names : (s ≡ ticket .session) × (p ≡ proxyParent ticket)
+      unfolding verdictOf
+      names = go (eqb (ticket .kind) aProxy && not (takesProxies v)) (renew && eqb (ticket .mark) 0) (same (ticket .text) service) (sym y ∙ e)
+        where
+          go : (a b c : Bool) → verdict.Accepted s p m ≡ if a verdict.NoTicket (if b verdict.NoTicket (if c (verdict.Accepted (ticket .session) (proxyParent ticket) (ticket .mark)) verdict.NoService))
+              → (s ≡ ticket .session) × (p ≡ proxyParent ticket)
+          go true b c q = absurd (let w : _≡_ {A = ℕ} 0 1 = cc in omega arith)
+          go false true c q = absurd (let w : _≡_ {A = ℕ} 0 1 = cc in omega arith)
+          go false false true q = (cc, cc)
+          go false false false q = absurd (let w : _≡_ {A = ℕ} 0 1 = cc in omega arith)
 
-    pub session-stays : In s b′
-    session-stays = rw (names .0) (taken-in b′ (recAt k (t .slots) .session) (rw (h .is) (omega (arith, stands .is))))
+      pub session-stays : In s b′
+      session-stays = rw (names .0) (taken-in b′ (ticket .session) (rw (h .is) (omega (arith, stands .is))))
 
-    pub parent-stays : Within p b′
-    parent-stays = rw (names .1) (above-within (proxyParent (recAt k (t .slots))) (recAt k (t .slots) .session) (stands .above))
+      pub parent-stays : Within p b′
+      parent-stays = rw (names .1) (above-within (proxyParent ticket) (ticket .session) (stands .above))
 
-pub still-brings : (b b′ g url random o : List ℕ) (k : ℕ) → Brings b g url random o → Spendable k b → Holds b′ (remove k (decodeTable b)) → Brings b′ g url random o
-still-brings b b′ g url random o k x z h = record { lawful = spent-lawful b k (x .lawful) z b′ h; register = x .register; short = x .short; drawn = x .drawn; room = x .room }
+pub still-brings : (b b′ g url random o : List ℕ) (k : ℕ) → Brings b g url random o → Spendable k b → Holds b′ (leftBy k (recAt k (decodeTable b .slots)) (remove k (decodeTable b))) → Brings b′ g url random o
+still-brings b b′ g url random o k x z h = record { lawful = left-lawful b k (x .lawful) z b′ h; register = x .register; short = x .short; drawn = x .drawn; room = x .room }
 
 -- By the verdict
 
-module _ (v : Validator) (rec : Rec) (renew : Bool) (service url : List ℕ) (g : Brought) (u : Table) (b′ : List ℕ) (h : Holds b′ u) (x : Verdict) (e : x ≡ verdictOf v renew service rec) (o o′ : List ℕ) (r : Outcome) where
-  pub no-ticket : x ≡ verdict.NoTicket → Said (failed v InvalidTicket) r o o′ → Done (spentBy v rec renew service url g u) r b′ o o′
+module _ (v : Validator) (k : ℕ) (rec : Rec) (renew : Bool) (service url : List ℕ) (g : Brought) (u : Table) (x : Verdict) (e : x ≡ verdictOf v renew service rec) (o o′ : List ℕ) (r : Outcome) (b′ : List ℕ) where
+  pub no-ticket : x ≡ verdict.NoTicket → Done (step u (failed v InvalidTicket)) r b′ o o′ → Done (spentBy v k rec renew service url g u) r b′ o o′
   unfolding spentBy
-  no-ticket y s = done-as (rw (sym e ∙ y)) (said-done h s)
+  no-ticket y d = done-as (rw (sym e ∙ y)) d
 
-  pub no-service : x ≡ verdict.NoService → Said (failed v InvalidService) r o o′ → Done (spentBy v rec renew service url g u) r b′ o o′
+  pub no-service : x ≡ verdict.NoService → Done (step u (failed v InvalidService)) r b′ o o′ → Done (spentBy v k rec renew service url g u) r b′ o o′
   unfolding spentBy
-  no-service y s = done-as (rw (sym e ∙ y)) (said-done h s)
+  no-service y d = done-as (rw (sym e ∙ y)) d
 
-  pub accepted-done : (s p m : ℕ) → x ≡ verdict.Accepted s p m → (b″ : List ℕ) → Done (acceptedBy v s p m service url g (decodeTable b′)) r b″ o o′ → Done (spentBy v rec renew service url g u) r b″ o o′
+  pub accepted-done : (s p m : ℕ) → x ≡ verdict.Accepted s p m → (b″ : List ℕ) → Holds b″ (leftBy k rec u) → Done (acceptedBy v s p m service url g (decodeTable b″)) r b′ o o′
+      → Done (spentBy v k rec renew service url g u) r b′ o o′
   unfolding spentBy
-  accepted-done s p m y b″ d =
-      let d₁ : Done (acceptedBy v s p m service url g u) r b″ o o′ = rw (h .is) at d in
+  accepted-done s p m y b″ h d =
+      let d₁ : Done (acceptedBy v s p m service url g (leftBy k rec u)) r b′ o o′ = rw (h .is) at d in
       done-as (rw (sym e ∙ y)) d₁
 
 -- What is found
@@ -194,7 +197,7 @@ module _ (b text : List ℕ) {f : Found} (e : f ≡ foundAt (ticketSlot text (de
       record { slot = ticket-slot b y text e; least = rw q (z .least); most = rw q (z .most); lasts = rw q (z .lasts) }
 
   module _ (v : Validator) (renew : Bool) (service url g random o o′ : List ℕ) (r : Outcome) where
-    pub presented-at : {k : ℕ} → f ≡ At k → (b′ : List ℕ) → Done (spentBy v (recAt k (decodeTable b .slots)) renew service url (bringing g random) (remove k (decodeTable b))) r b′ o o′
+    pub presented-at : {k : ℕ} → f ≡ At k → (b′ : List ℕ) → Done (spentBy v k (recAt k (decodeTable b .slots)) renew service url (bringing g random) (remove k (decodeTable b))) r b′ o o′
         → Done (presentedBy v (ticketSlot text (decodeTable b)) renew service url (bringing g random) (decodeTable b)) r b′ o o′
     unfolding presentedBy
     presented-at {k} y b′ d =

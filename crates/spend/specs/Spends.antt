@@ -2,17 +2,17 @@
 use mathlib.Core.Path.{_≡_}
 use mathlib.Core.Bool.{Bool, true, _&&_, not}
 use mathlib.Core.List.{List, []}
-use Prim.Native.Nat.{ℕ, _+_, _≤_, _<_}
+use Prim.Native.Nat.{ℕ, _+_, _≤_}
 use lib.Dec.{eqb, leb}
 use lib.ListN.{length}
 use Rattle.protocol.specs.Bytes.{if, isEmpty, same}
 use Rattle.protocol.specs.Tickets.{aWaiting, deepest}
 use Rattle.protocol.specs.Records.{Rec}
-use Rattle.protocol.specs.Table.{Table, decodeTable, recAt}
+use Rattle.protocol.specs.Table.{Table, recAt}
 use Rattle.protocol.specs.Register.{Entry, callbackOf, registerLawful}
 use Rattle.protocol.specs.Answers.{InvalidTicket, InvalidService, YesNo}
-use Rattle.protocol.specs.Steps.{Brought, Step, step, remove, roomFor, newRec, successOf, failed, isPlain, waitingWith}
-use Rattle.protocol.specs.Held.{Lawful, In}
+use Rattle.protocol.specs.Steps.{Brought, Step, step, remove, roomFor, newRec, successOf, failed, isPlain, waitingWith, leftBy}
+use Rattle.protocol.specs.Held.{Lawful}
 use Rattle.protocol.specs.declared.Validator.{Validator}
 use Rattle.verdict.specs.Verdicts.{verdictOf}
 use Rattle.verdict.specs.declared.Verdict.{Verdict}
@@ -25,13 +25,6 @@ pub record Brings (b g url random o : List ℕ) : Type 0 where
   pub short : length url ≤ 200
   pub drawn : length random ≡ 48
   pub room : 8192 ≤ length o
-
--- a live service or proxy ticket
-pub record Spendable (k : ℕ) (b : List ℕ) : Type 0 where
-  pub slot : In k b
-  pub least : 3 ≤ recAt k (decodeTable b .slots) .kind
-  pub most : recAt k (decodeTable b .slots) .kind ≤ 4
-  pub lasts : decodeTable b .clock < recAt k (decodeTable b .slots) .expiry
 
 -- a grant is made where the url is the nonempty callback of the service, the new depth is at most 4 and a serial is left
 unfoldable pub mayGrant : ℕ → List ℕ → List ℕ → List Entry → Table → Bool
@@ -48,17 +41,17 @@ grantOrTell session parent mark service url g t =
 unfoldable pub acceptedBy : Validator → ℕ → ℕ → ℕ → List ℕ → List ℕ → Brought → Table → Step
 acceptedBy v session parent mark service url g t = if (isPlain v) (step t (YesNo true)) (grantOrTell session parent mark service url g t)
 
--- what is done by a verdict; t is the table without the ticket
-abbrev pub answeredBy : Validator → Verdict → List ℕ → List ℕ → Brought → Table → Step
-answeredBy v verdict.NoTicket service url g t = step t (failed v InvalidTicket)
-answeredBy v verdict.NoService service url g t = step t (failed v InvalidService)
-answeredBy v (verdict.Accepted session parent mark) service url g t = acceptedBy v session parent mark service url g t
+-- what is done by a verdict on the ticket r of slot k; t is the table without it
+abbrev pub answeredBy : Validator → ℕ → Rec → Verdict → List ℕ → List ℕ → Brought → Table → Step
+answeredBy v k r verdict.NoTicket service url g t = step t (failed v InvalidTicket)
+answeredBy v k r verdict.NoService service url g t = step t (failed v InvalidService)
+answeredBy v k r (verdict.Accepted session parent mark) service url g t = acceptedBy v session parent mark service url g (leftBy k r t)
 
--- (3) to (6): the ticket r has been removed
-unfoldable pub spentBy : Validator → Rec → Bool → List ℕ → List ℕ → Brought → Table → Step
-spentBy v r renew service url g t = answeredBy v (verdictOf v renew service r) service url g t
+-- (3) to (6): the ticket r has been removed from slot k
+unfoldable pub spentBy : Validator → ℕ → Rec → Bool → List ℕ → List ℕ → Brought → Table → Step
+spentBy v k r renew service url g t = answeredBy v k r (verdictOf v renew service r) service url g t
 
 -- (2) a live service or proxy ticket in slot k, or none
 unfoldable pub presentedBy : Validator → ℕ → Bool → List ℕ → List ℕ → Brought → Table → Step
 presentedBy v k renew service url g t =
-    if (eqb k 0) (step t (failed v InvalidTicket)) (spentBy v (recAt k (t .slots)) renew service url g (remove k t))
+    if (eqb k 0) (step t (failed v InvalidTicket)) (spentBy v k (recAt k (t .slots)) renew service url g (remove k t))

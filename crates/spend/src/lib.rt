@@ -1,4 +1,5 @@
-// A ticket presented: found, judged, removed, and only then answered.
+// A ticket presented: found, judged, spent, and only then answered. What is spent is removed, but for an accepted service ticket, whose
+// record becomes a visit.
 use find::Found;
 use protocol::Outcome;
 use protocol::Validator;
@@ -10,12 +11,13 @@ ghost use Prim.Native.Nat.{_≤_};
 ghost use lib.ListN.{length};
 ghost use Rattle.protocol.specs.Table.{decodeTable, recAt};
 ghost use Rattle.protocol.specs.Register.{decodeRegister, registerLawful};
-ghost use Rattle.protocol.specs.Steps.{failed, remove, ticketSlot};
+ghost use Rattle.protocol.specs.Steps.{step, failed, remove, ticketSlot};
 ghost use Rattle.protocol.specs.Held.{Fine, In, Said, Done};
 ghost use Rattle.protocol.specs.Calls.{bringing};
 ghost use Rattle.xml.specs.Codes.{codeOf};
 ghost use Rattle.chain.specs.Walk.{Within};
-ghost use Rattle.spend.specs.Spends.{Brings, Spendable, mayGrant, grantOrTell, acceptedBy, spentBy, presentedBy};
+ghost use Rattle.verdict.specs.Verdicts.{Spendable};
+ghost use Rattle.spend.specs.Spends.{Brings, mayGrant, grantOrTell, acceptedBy, spentBy, presentedBy};
 
 // The deepest grant.
 const DEEPEST: u8 = 4;
@@ -64,7 +66,7 @@ fn grant_or_tell(
     chain::say_success(table, session as usize, mark, b"", parent as usize, out)
 }
 
-// A ticket accepted, which is no longer in the table.
+// A ticket accepted, which can no longer be presented.
 fn accept(
     table: &mut [u8],
     register: &[u8],
@@ -111,7 +113,16 @@ fn accept(
     }
 }
 
-// The ticket in a slot is judged and removed, whatever is then said of it.
+// A ticket that is not accepted is removed.
+fn burn(table: &mut [u8], slot: usize, validator: Validator, code: Code, out: &mut [u8]) -> Outcome
+    requires { ⌜ (Fine (now table)) × (In slot (now table)) × (8192 ≤ length (now out)) ⌝ }
+    ensures { λ r. ⌜ Done (step (remove slot (decodeTable (now (table .entry)))) (failed validator (codeOf code))) r (now (table .exit)) (now (out .entry)) (now (out .exit)) ⌝ }
+{
+    table::free_record(table, slot);
+    fail(validator, code, out)
+}
+
+// The ticket in a slot is judged and spent, whatever is then said of it.
 fn spend(
     table: &mut [u8],
     register: &[u8],
@@ -124,29 +135,30 @@ fn spend(
     out: &mut [u8],
 ) -> Outcome
     requires { ⌜ (Brings (now table) (now register) (now url) (now random) (now out)) × (Spendable slot (now table)) ⌝ }
-    ensures { λ r. ⌜ Done (spentBy validator (recAt slot (decodeTable (now (table .entry)) .slots)) renew (now (service .entry)) (now (url .entry)) (bringing (now (register .entry)) (now (random .entry))) (remove slot (decodeTable (now (table .entry))))) r (now (table .exit)) (now (out .entry)) (now (out .exit)) ⌝ }
+    ensures { λ r. ⌜ Done (spentBy validator slot (recAt slot (decodeTable (now (table .entry)) .slots)) renew (now (service .entry)) (now (url .entry)) (bringing (now (register .entry)) (now (random .entry))) (remove slot (decodeTable (now (table .entry))))) r (now (table .exit)) (now (out .entry)) (now (out .exit)) ⌝ }
 {
-    let verdict = verdict::judge(table, slot, validator, renew, service);
-    table::free_record(table, slot);
-    match verdict {
-        Verdict::NoTicket => fail(validator, Code::InvalidTicket, out),
-        Verdict::NoService => fail(validator, Code::InvalidService, out),
+    match verdict::judge(table, slot, validator, renew, service) {
+        Verdict::NoTicket => burn(table, slot, validator, Code::InvalidTicket, out),
+        Verdict::NoService => burn(table, slot, validator, Code::InvalidService, out),
         Verdict::Accepted {
             session,
             parent,
             mark,
-        } => accept(
-            table,
-            register,
-            validator,
-            session,
-            parent,
-            mark,
-            service,
-            url,
-            random,
-            out,
-        ),
+        } => {
+            verdict::leave(table, slot);
+            accept(
+                table,
+                register,
+                validator,
+                session,
+                parent,
+                mark,
+                service,
+                url,
+                random,
+                out,
+            )
+        }
     }
 }
 

@@ -10,7 +10,7 @@ use Rattle.protocol.specs.Bytes.{part, num, bytesOf, zeros, padTo, spliced}
 use Rattle.protocol.specs.Blocks.{checkFrom, houseCheck, sealed}
 use Rattle.protocol.specs.Records.{Rec, freeRec, recBody, encodeRec, decodeRec}
 use Rattle.protocol.specs.Table.{tableOf, headBody, decodeTable, recAt, lastTime}
-use Rattle.protocol.specs.Steps.{put, remove, granted}
+use Rattle.protocol.specs.Steps.{put, remove, turned}
 use Rattle.protocol.specs.Held.{Sized, Fits, Fine, Holds, In}
 use Rattle.protocol.proofs.Laws.{length-pad, pad-full, length-bytes, length-body, length-rec, length-head}
 use Rattle.protocol.proofs.Places.{slots-count}
@@ -200,17 +200,17 @@ head-filled n c x s g e7 e6 e5 e4 e3 e2 e1 =
     let p6 = laid-next p5 (zeros 488) 488 refl (lit≤ tt) e6 in
     e7 ∙ ap sealed (front p6)
 
--- A waiting grant's block made a grant's
+-- A block's kind turned
 
 -- its writes in a row
-pub grant-wrote : (e : ℕ) (s : List ℕ) {l1 l2 l3 l4 l5 : List ℕ}
+pub turn-wrote : (kind e : ℕ) (s : List ℕ) {l1 l2 l3 l4 l5 : List ℕ}
     → l5 ≡ sealed (take 508 l4)
     → l4 ≡ spliced l3 256 (zeros 16)
     → l3 ≡ spliced l2 16 (bytesOf 8 e)
     → l2 ≡ spliced l1 1 (0 ∷ [])
-    → l1 ≡ spliced s 0 (6 ∷ [])
-    → l5 ≡ sealed (take 508 (spliced (spliced (spliced (spliced s 0 (6 ∷ [])) 1 (0 ∷ [])) 16 (bytesOf 8 e)) 256 (zeros 16)))
-grant-wrote e s e5 e4 e3 e2 e1 = rw (e5, e4, e3, e2, e1)
+    → l1 ≡ spliced s 0 (kind ∷ [])
+    → l5 ≡ sealed (take 508 (spliced (spliced (spliced (spliced s 0 (kind ∷ [])) 1 (0 ∷ [])) 16 (bytesOf 8 e)) 256 (zeros 16)))
+turn-wrote kind e s e5 e4 e3 e2 e1 = rw (e5, e4, e3, e2, e1)
 
 -- a text in the middle overwritten by one as long
 spliced-mid : (a p y c : List ℕ) (at : ℕ) → length a ≡ at → length p ≡ length y → spliced (a ++ (p ++ c)) at y ≡ a ++ (y ++ c)
@@ -220,22 +220,22 @@ spliced-mid a p y c at h k =
     let d : drop (at + length y) (a ++ (p ++ c)) ≡ c = rw (sym (append-assoc a p c)) (drop-at (a ++ p) c (at + length y) n) in
     rw (d, take-at a (p ++ c) at h)
 
-module _ (r : Rec) (z : Sized r) (e : ℕ) where
+module _ (r : Rec) (z : Sized r) (kind e : ℕ) where
   -- after its kind, mark and expiry, and after its IOU secret
   abbrev lasting : List ℕ → Rec
-  lasting iou = record { kind = 6; mark = 0; parent = r .parent; session = r .session; depth = r .depth; serial = r .serial; expiry = e; secret = r .secret; text = r .text; iou = iou; since = r .since }
+  lasting iou = record { kind = kind; mark = 0; parent = r .parent; session = r .session; depth = r .depth; serial = r .serial; expiry = e; secret = r .secret; text = r .text; iou = iou; since = r .since }
 
   abbrev check : List ℕ
   check = bytesOf 4 (houseCheck (recBody r))
 
-  numbers-kept : spliced (spliced (spliced (encodeRec r) 0 (6 ∷ [])) 1 (0 ∷ [])) 16 (bytesOf 8 e) ≡ recBody (lasting (r .iou)) ++ check
+  numbers-kept : spliced (spliced (spliced (encodeRec r) 0 (kind ∷ [])) 1 (0 ∷ [])) 16 (bytesOf 8 e) ≡ recBody (lasting (r .iou)) ++ check
   unfolding encodeRec sealed recBody bytesOf spliced
   numbers-kept = refl
 
   -- bytes 0 to 255
   abbrev first256 : List ℕ
   first256 =
-      (6 ∷ 0 ∷ [])
+      (kind ∷ 0 ∷ [])
       ++ (bytesOf 2 (r .parent)
       ++ (bytesOf 2 (r .session)
       ++ ((r .depth ∷ 0 ∷ [])
@@ -262,9 +262,9 @@ module _ (r : Rec) (z : Sized r) (e : ℕ) where
       ∙ spliced-mid first256 (padTo 16 (r .iou)) (zeros 16) ((bytesOf 8 (r .since) ++ zeros 228) ++ check) 256 length256 n
       ∙ sym (split256 (zeros 16) check)
 
-  pub grant-filled : sealed (take 508 (spliced (spliced (spliced (spliced (encodeRec r) 0 (6 ∷ [])) 1 (0 ∷ [])) 16 (bytesOf 8 e)) 256 (zeros 16))) ≡ encodeRec (lasting (zeros 16))
+  pub turn-filled : sealed (take 508 (spliced (spliced (spliced (spliced (encodeRec r) 0 (kind ∷ [])) 1 (0 ∷ [])) 16 (bytesOf 8 e)) 256 (zeros 16))) ≡ encodeRec (lasting (zeros 16))
   unfolding encodeRec
-  grant-filled =
+  turn-filled =
       let n : length (recBody (lasting (zeros 16))) ≡ 508 = length-body (lasting (zeros 16)) (record { secret = z .secret; text = z .text; iou = refl }) in
       ap (λ (l : List ℕ). sealed (take 508 l)) (ap (λ (l : List ℕ). spliced l 256 (zeros 16)) numbers-kept ∙ iou-cleared) ∙ ap sealed (take-at (recBody (lasting (zeros 16))) check 508 n)
 
@@ -295,16 +295,16 @@ lent-head t y n c x f h g m e =
     let d : y ≡ sealed (headBody (length (decodeTable t .slots)) c x) = rw k at e in
     laid-head t (y ++ drop 512 t) c x f h g (q ∙ ap (spliced t 0) d)
 
-pub lent-grant : (t y : List ℕ) (k s e : ℕ) → Fine t → In k t → s ≡ recAt k (decodeTable t .slots) .session → e ≡ recAt s (decodeTable t .slots) .expiry
-    → y ≡ sealed (take 508 (spliced (spliced (spliced (spliced (part (512 * k) (512 * k + 512 - 512 * k) t) 0 (6 ∷ [])) 1 (0 ∷ [])) 16 (bytesOf 8 e)) 256 (zeros 16)))
-    → Holds (take (512 * k) t ++ (y ++ drop (512 * k + 512 - 512 * k) (drop (512 * k) t))) (put k (granted (recAt k (decodeTable t .slots)) (decodeTable t .slots)) (decodeTable t))
-unfolding granted
-lent-grant t y k s e f i hs he hy =
+pub lent-turn : (t y : List ℕ) (kind k s e : ℕ) → Fine t → In k t → s ≡ recAt k (decodeTable t .slots) .session → e ≡ recAt s (decodeTable t .slots) .expiry
+    → y ≡ sealed (take 508 (spliced (spliced (spliced (spliced (part (512 * k) (512 * k + 512 - 512 * k) t) 0 (kind ∷ [])) 1 (0 ∷ [])) 16 (bytesOf 8 e)) 256 (zeros 16)))
+    → Holds (take (512 * k) t ++ (y ++ drop (512 * k + 512 - 512 * k) (drop (512 * k) t))) (put k (turned kind (recAt k (decodeTable t .slots)) (decodeTable t .slots)) (decodeTable t))
+unfolding turned
+lent-turn t y kind k s e f i hs he hy =
     let r : Rec = recAt k (decodeTable t .slots) in
     let z = fits-of t k f in
     let w : 512 * k + 512 - 512 * k ≡ 512 = omega arith in
     let q : e ≡ recAt (r .session) (decodeTable t .slots) .expiry = he ∙ rw hs in
-    let g : granted r (decodeTable t .slots) ≡ lasting r (z .sized) e (zeros 16) = rw q in
-    let fits : Fits (lasting r (z .sized) e (zeros 16)) =
+    let g : turned kind r (decodeTable t .slots) ≡ lasting r (z .sized) kind e (zeros 16) = rw q in
+    let fits : Fits (lasting r (z .sized) kind e (zeros 16)) =
     record { parent = z .parent; session = z .session; serial = z .serial; expiry = omega (arith, he, fits-of t s f .expiry); since = z .since; sized = record { secret = z .sized .secret; text = z .sized .text; iou = refl } } in
-    rw g (lent-rec t y k (lasting r (z .sized) e (zeros 16)) f i fits (hy ∙ rw (w, block-of t k f i) (grant-filled r (z .sized) e)))
+    rw g (lent-rec t y k (lasting r (z .sized) kind e (zeros 16)) f i fits (hy ∙ rw (w, block-of t k f i) (turn-filled r (z .sized) kind e)))

@@ -14,7 +14,7 @@ use Rattle.protocol.specs.Table.{Table, decodeTable, recAt}
 use Rattle.protocol.specs.Register.{decodeRegister}
 use Rattle.protocol.specs.Request.{malformed, validatorNames, valueOf, fromQuery, present, decoded, rawValue}
 use Rattle.protocol.specs.Answers.{InvalidRequest, InvalidTicket, InvalidService}
-use Rattle.protocol.specs.Steps.{Brought, step, remove, ticketSlot, failed, takesProxies, proxyParent, grants, waitingStep, acceptTicket, judgeTicket, presented, validate}
+use Rattle.protocol.specs.Steps.{Brought, step, remove, ticketSlot, failed, takesProxies, proxyParent, grants, waitingStep, leftBy, acceptTicket, judgeTicket, presented, validate}
 use Rattle.protocol.specs.Written.{Wrote}
 use Rattle.protocol.specs.Held.{Said, Done, Lent}
 use Rattle.protocol.specs.declared.Outcome.{Outcome}
@@ -66,24 +66,24 @@ module _ (r : Rec) (q : List ℕ) (g : Brought) (t : Table) (service : List ℕ)
   accept-same validator.Service = rw e
   accept-same validator.Proxy = rw e
 
-judge-same : (v : Validator) (r : Rec) (q : List ℕ) (g : Brought) (t : Table) → judgeTicket v r q g t ≡ spentBy v r (present "renew" q) (fromQuery "service" q) (callbackIn v q) g t
+judge-same : (v : Validator) (k : ℕ) (r : Rec) (q : List ℕ) (g : Brought) (t : Table) → judgeTicket v k r q g t ≡ spentBy v k r (present "renew" q) (fromQuery "service" q) (callbackIn v q) g t
 unfolding judgeTicket spentBy verdictOf
-judge-same v r q g t = go (eqb (r .kind) aProxy && not (takesProxies v)) (present "renew" q && eqb (r .mark) 0) (same (r .text) (fromQuery "service" q)) refl
+judge-same v k r q g t = go (eqb (r .kind) aProxy && not (takesProxies v)) (present "renew" q && eqb (r .mark) 0) (same (r .text) (fromQuery "service" q)) refl
   where
     s : List ℕ
     s = fromQuery "service" q
 
     go : (a b c : Bool) → same (r .text) s ≡ c
-        → if a (step t (failed v InvalidTicket)) (if b (step t (failed v InvalidTicket)) (if c (acceptTicket v r (fromQuery "pgtUrl" q) g t) (step t (failed v InvalidService))))
-        ≡ answeredBy v (if a verdict.NoTicket (if b verdict.NoTicket (if c (verdict.Accepted (r .session) (proxyParent r) (r .mark)) verdict.NoService))) s (callbackIn v q) g t
+        → if a (step t (failed v InvalidTicket)) (if b (step t (failed v InvalidTicket)) (if c (acceptTicket v r (fromQuery "pgtUrl" q) g (leftBy k r t)) (step t (failed v InvalidService))))
+        ≡ answeredBy v k r (if a verdict.NoTicket (if b verdict.NoTicket (if c (verdict.Accepted (r .session) (proxyParent r) (r .mark)) verdict.NoService))) s (callbackIn v q) g t
     go true b c e = refl
     go false true c e = refl
-    go false false true e = accept-same r q g t s (same-eq (r .text) s e) v
+    go false false true e = accept-same r q g (leftBy k r t) s (same-eq (r .text) s e) v
     go false false false e = refl
 
 presented-same : (v : Validator) (k : ℕ) (q : List ℕ) (g : Brought) (t : Table) → presented v k q g t ≡ presentedBy v k (present "renew" q) (fromQuery "service" q) (callbackIn v q) g t
 unfolding presented presentedBy
-presented-same v k q g t = rw (judge-same v (recAt k (t .slots)) q g (remove k t))
+presented-same v k q g t = rw (judge-same v k (recAt k (t .slots)) q g (remove k t))
 
 -- absent or not, by the length
 

@@ -1,11 +1,11 @@
-// A ticket judged: what is to be said of it, told before it is removed and answered only after that.
+// A ticket judged: what is to be said of it, told before it is spent and answered only after that; and what an accepted one leaves.
 use protocol::Validator;
 ghost use mathlib.Core.Path.{_≡_};
 ghost use mathlib.Core.Bool.{not};
 ghost use Rattle.protocol.specs.Table.{decodeTable, recAt};
-ghost use Rattle.protocol.specs.Steps.{takesProxies, proxyParent};
-ghost use Rattle.protocol.specs.Held.{Fine, In};
-ghost use Rattle.verdict.specs.Verdicts.{verdictOf};
+ghost use Rattle.protocol.specs.Steps.{remove, takesProxies, proxyParent, leftBy};
+ghost use Rattle.protocol.specs.Held.{Fine, Lawful, Holds, In};
+ghost use Rattle.verdict.specs.Verdicts.{verdictOf, Spendable};
 
 // Of an accepted ticket: its session, where its proxies start, 0 for none, and its mark.
 pub enum Verdict {
@@ -65,4 +65,16 @@ pub fn judge(
         };
     }
     Verdict::NoService
+}
+
+// An accepted service ticket becomes a visit, an accepted proxy ticket is removed.
+pub fn leave(table: &mut [u8], slot: usize)
+    requires { ⌜ (Lawful (now table)) × (Spendable slot (now table)) ⌝ }
+    ensures { λ _. ⌜ Holds (now (table .exit)) (leftBy slot (recAt slot (decodeTable (now (table .entry)) .slots)) (remove slot (decodeTable (now (table .entry))))) ⌝ }
+{
+    if table::kind_of(table, slot) == ticket::Service::KIND {
+        table::turn(table, slot, ticket::Visit::KIND);
+    } else {
+        table::free_record(table, slot);
+    }
 }

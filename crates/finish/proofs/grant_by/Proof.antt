@@ -14,8 +14,8 @@ slice-aggregate-tell c = search (needs, scratch-count)
 tell-requires : tie.Need-tell-requires
 tell-requires c κs = search (needs, iou-short)
 
-make-grant-requires : tie.Need-make-grant-requires
-make-grant-requires c κs = search (needs, waits-session)
+turn-requires : tie.Need-turn-requires
+turn-requires c κs = search (needs, waits-session)
 
 returns : tie.Need-returns
 returns c = search (needs, yes-done)
@@ -29,7 +29,7 @@ grant-by-spec =
     (λ c. search needs)
     slice-aggregate-tell
     tell-requires
-    make-grant-requires
+    turn-requires
     (λ c. search needs)
     (λ c. search needs)
     (λ c. search needs)

@@ -7,10 +7,10 @@ returns : tie.Need-returns
 returns c = search (rung-yes, most-yes) depth 12
 
 returns-2 : tie.Need-returns-2
-returns-2 c = search (rung-yes, most-no, most-yes) depth 12
+returns-2 c = search (rung-yes, most-no) depth 12
 
 returns-3 : tie.Need-returns-3
-returns-3 c = search (rung-no, rung-yes, most-no, most-yes) depth 12
+returns-3 c = search rung-no
 
 pub after-table-spec : {M : Type 1} → statement M
 after-table-spec =

@@ -1,4 +1,4 @@
--- The verdict is that of the ticket, what is answered that of the table without it.
+-- The verdict is that of the ticket, what is answered that of the table without it, or with what it left.
 use borrow.Author.Needs.{needs}
 use Rattle.spend.proofs.Laws.{still-brings, session-stays, parent-stays, no-ticket, no-service, accepted-done}
 use Rattle.spend.proofs.spend.Statement.{statement}
@@ -21,12 +21,12 @@ spend-spec =
     tie.close
     (tie.spec
     (λ c κs. search needs)
-    (λ c κs. search needs)
     (λ c. search needs)
     (λ c κs. search needs)
     (λ c. search needs)
     (λ c κs. search needs)
     (λ c. search needs)
+    (λ c κs. search needs)
     accept-requires
     (λ c. search needs)
     (λ c. search needs)

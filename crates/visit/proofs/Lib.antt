@@ -1,0 +1,3 @@
+-- Laws of visits found and told, and of their texts.
+pub mod Laws
+pub mod Texts

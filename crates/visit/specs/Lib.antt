@@ -1,0 +1,2 @@
+-- The slots of visits, and what the call tells.
+pub mod Telling
