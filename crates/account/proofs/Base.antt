@@ -11,6 +11,7 @@ use lib.ListN.{length, getD, set, take}
 use Rattle.protocol.specs.Bytes.{if, same, upTo, past, decimal, hex}
 use Rattle.protocol.specs.Tickets.{ticketText, secretLength}
 use Rattle.protocol.proofs.Names.{readDecimal, digits-read, digits-within, upTo-digits}
+use Rattle.protocol.proofs.Laws.{one-test}
 
 -- the two cases of a test, with the equation
 pub data Case (b : Bool) : Type 0 where
@@ -37,13 +38,6 @@ pub if-same : {A : Type 0} (b : Bool) (x : A) → if b x x ≡ x
 if-same true x = refl
 if-same false x = refl
 
--- two tests that pass together are one
-pub one-test : (a b : Bool) → (a ≡ true → b ≡ true) → (b ≡ true → a ≡ true) → a ≡ b
-one-test true true f g = refl
-one-test true false f g = sym (f refl)
-one-test false true f g = g refl
-one-test false false f g = refl
-
 pub untrue : (b : Bool) → (b ≡ true → ⊥) → b ≡ false
 untrue true f = absurd (f refl)
 untrue false f = refl
@@ -51,10 +45,6 @@ untrue false f = refl
 pub and-yes : (b : Bool) → (b && true) ≡ b
 and-yes true = refl
 and-yes false = refl
-
-pub and-not : (b : Bool) → (b && false) ≡ false
-and-not true = refl
-and-not false = refl
 
 pub or-left : (a b : Bool) → a ≡ true → (a || b) ≡ true
 or-left true b e = refl

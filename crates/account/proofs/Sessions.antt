@@ -15,10 +15,10 @@ use Rattle.protocol.specs.Tickets.{ticketText, aLogin, aSession, aGrant}
 use Rattle.protocol.specs.Records.{Rec, freeRec, nameOf, live}
 use Rattle.protocol.specs.Table.{Table, recAt}
 use Rattle.protocol.specs.Steps.{put, endRec, endSession, sessionOf, turned, waitingSlot}
-use Rattle.protocol.proofs.Laws.{same-eq, same-refl}
+use Rattle.protocol.proofs.Laws.{same-eq, same-refl, one-test, or-both}
 use Rattle.account.specs.History.{Text}
 use Rattle.account.specs.Notebook.{ended, Notebook, closeAll, raise, raiseLine, raiseAll, nothing, look, isLine, isWaitingLine, ofSession}
-use Rattle.account.proofs.Base.{if-same, clash, one-test}
+use Rattle.account.proofs.Base.{if-same, clash}
 use Rattle.account.proofs.Sim.{Slot, noLine, noSlot, on, alive, lives, upOf, Under, Placed, login, session, below, Good}
 use Rattle.account.proofs.Edits.{raise-name, raise-ref, alive-time, alive-is, under-of, home-lives, up-grants, sim-drop, sim-change}
 use Rattle.account.proofs.Look.{recOf, Tied, live-inside, rec-on, zero-dead, same-name, look-no, Miss, hit-named, miss-named, hit-waiting, waiting-kind, named-kind, named-name}
@@ -47,10 +47,6 @@ session-free A a (login k s) h = absurd (omega arith)
 session-free A a (session k s n u v t) h = s
 session-free A a (below k u) h = absurd (omega arith)
 
-or-false : (a b : Bool) → (a || b) ≡ false → (a ≡ false) × (b ≡ false)
-or-false true b e = absurd (clash refl e)
-or-false false b e = (refl, e)
-
 -- The session in slot s
 module _ (L : Notebook) (t : Table) (w : Tied L t) (s : ℕ) (ls : lives (L .clock) (w .A) s ≡ true) (ks : on (w .A) s .r .kind ≡ 2) where
   goes : ℕ → Bool
@@ -72,7 +68,7 @@ module _ (L : Notebook) (t : Table) (w : Tied L t) (s : ℕ) (ls : lives (L .clo
   rest-keep : (i : ℕ) → goes i ≡ false → on rest i ≡ on (w .A) i
   unfolding goes rest endS
   rest-keep i z =
-      let p = or-false (eqb i s) (eqb (on (w .A) i .r .session) s) z in
+      let p = or-both (eqb i s) (eqb (on (w .A) i .r .session) s) z in
       getD-set-other (map (endS s) (w .A)) s i noSlot noSlot (eqb-false i s (p .0)) ∙ on-end s (w .A) i ∙ rw (p .1)
 
   rest-gone : (i : ℕ) → goes i ≡ true → lives (L .clock) rest i ≡ false
@@ -123,14 +119,14 @@ module _ (L : Notebook) (t : Table) (w : Tied L t) (s : ℕ) (ls : lives (L .clo
   homes : (i : ℕ) → lives (L .clock) (w .A) i ≡ true → Under (w .A) (on (w .A) i) → goes i ≡ false → goes (on (w .A) i .r .session) ≡ false
   unfolding goes
   homes i l u z =
-      let p = or-false (eqb i s) (eqb (on (w .A) i .r .session) s) z in
+      let p = or-both (eqb i s) (eqb (on (w .A) i .r .session) s) z in
       let h = session-free (w .A) _ (w .sim .good _ (home-lives (L .clock) (w .A) (on (w .A) i) u (alive-time (L .clock) (on (w .A) i .r) l)) .placed) (u .home) in
       rw (p .1, h) (ne-eqb 0 s (λ e. omega (arith, some)))
 
   parents : (i k : ℕ) → lives (L .clock) (w .A) i ≡ true → Under (w .A) (on (w .A) i) → upOf (on (w .A) i .r) ≡ suc k → goes i ≡ false → goes (suc k) ≡ false
   unfolding goes
   parents i k l u e z =
-      let p = or-false (eqb i s) (eqb (on (w .A) i .r .session) s) z in
+      let p = or-both (eqb i s) (eqb (on (w .A) i .r .session) s) z in
       let g = up-grants (w .A) _ _ _ k (u .line) e in
       rw (g .1, p .1, ne-eqb (suc k) s (λ x. let y : on (w .A) s .r .kind ≡ 6 = rw x at (g .0) in omega arith))
 

@@ -14,8 +14,9 @@ use Rattle.protocol.specs.Records.{Rec, freeRec}
 use Rattle.protocol.specs.Table.{Table, putAt}
 use Rattle.protocol.specs.Steps.{clearRec, tick, put, remove, slotFor, add}
 use Rattle.protocol.proofs.Added.{Room}
+use Rattle.protocol.proofs.Laws.{and-false}
 use Rattle.account.specs.Notebook.{Fate, expired, Line, Notebook, isHeld, closeLine, closeAll, enter, pass}
-use Rattle.account.proofs.Base.{if-same, clash, and-not}
+use Rattle.account.proofs.Base.{if-same, clash}
 use Rattle.account.proofs.Sim.{Slot, noLine, bare, noSlot, on, alive, lives, upOf, Under, session, Good, Sim, good-move}
 use Rattle.account.proofs.Edits.{alive-time, free-dead, under-of, home-lives, parent-lives, up-grants, sim-drop, sim-put, sim-time}
 use Rattle.account.proofs.Look.{recOf, Tied, live-inside, rec-on, size-is, zero-dead, Miss}
@@ -158,7 +159,7 @@ clear-slots c slots A e =
 
 close-none : (F : Fate) (l : List Line) → map (closeLine F (λ (e : Line). false)) l ≡ l
 close-none F [] = refl
-close-none F (e ∷ es) = ap₂ _∷_ (rw (and-not (isHeld (e .fate)))) (close-none F es)
+close-none F (e ∷ es) = ap₂ _∷_ (rw (and-false (isHeld (e .fate)))) (close-none F es)
 
 sim-clear : (L : Notebook) (A : List Slot) (n : ℕ) → Sim L A n → Sim L (map (clearS (L .clock)) A) n
 unfolding closeAll clearS

@@ -11,14 +11,8 @@ use lib.ListN.{length, take, drop, getD, List·getD-eq-default}
 use lib.Seq.{take-add, take-all, drop-drop, drop-cons, getD-take, getD-drop}
 use Rattle.protocol.specs.Blocks.{houseCheck, checkRight, sealed}
 use Rattle.protocol.specs.Bytes.{same, within, allWithin, zeros, padTo, part, num, leOf, bytesOf}
-use Rattle.protocol.proofs.Laws.{same-eq, same-refl, same-append, le-bytes, pad-full, part-long}
+use Rattle.protocol.proofs.Laws.{same-eq, same-refl, same-append, le-bytes, pad-full, part-long, one-test}
 use Rattle.protocol.proofs.Notice.{house-below}
-
--- two tests that follow from each other are one
-pub one-test : (a b : Bool) → (a ≡ true → b ≡ true) → (b ≡ true → a ≡ true) → a ≡ b
-one-test true b f g = sym (f refl)
-one-test false true f g = g refl
-one-test false false f g = refl
 
 -- a part in two
 cut : (b : List ℕ) (at k m : ℕ) → part at (k + m) b ≡ part at k b ++ part (at + k) m b

@@ -20,10 +20,6 @@ use Rattle.request.specs.declared.LoginBody.{LoginBody}
 use Rattle.request.specs.declared.LoginBody.the-variants.{Malformed, Given}
 use Rattle.request.proofs.Values.{body-told}
 
-and-false : (b : Bool) → b && false ≡ false
-and-false true = refl
-and-false false = refl
-
 empty : (s : List ℕ) → length s ≡ 0 → isEmpty s ≡ true
 empty [] e = refl
 empty (b ∷ s) e = absurd (omega arith)

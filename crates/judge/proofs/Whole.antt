@@ -15,10 +15,10 @@ use Rattle.protocol.specs.Blocks.{checkRight, sealed}
 use Rattle.protocol.specs.Tickets.{aFree, aLogin}
 use Rattle.protocol.specs.Records.{Rec, freeRec, recBody, encodeRec, decodeRec, ownRight}
 use Rattle.protocol.specs.Table.{headBody, decodeTable, countKind, serialTaken, serialsDiffer, sessionRight, parentRight, tableLawful, loginCap, lastTime}
-use Rattle.protocol.proofs.Laws.{both, both5, same-eq, same-refl, recRight, Rules, rules, rules-hold, sized-read, length-body, part-long, lawful-bytes, lawful-fits, lawful-clock, lawful-rules}
+use Rattle.protocol.proofs.Laws.{both, both5, same-eq, same-refl, recRight, Rules, rules, rules-hold, sized-read, length-body, part-long, lawful-bytes, lawful-fits, lawful-clock, lawful-rules, one-test}
 use Rattle.protocol.proofs.Places.{head-bytes, slots-count, lawful-by-blocks, block-lawful}
 use Rattle.protocol.proofs.Kept.{free-right, right-all, right-slot}
-use Rattle.block.proofs.Bytewise.{one-test, part-bytes, sealed-test, Bytes}
+use Rattle.block.proofs.Bytewise.{part-bytes, sealed-test, Bytes}
 use Rattle.block.proofs.Parts.{part-part}
 use Rattle.judge.specs.Tests.{blockAt, saidAt, aloneAt, slotRight, allFrom, headRight, judged}
 use Rattle.judge.proofs.Slots.{said-block}

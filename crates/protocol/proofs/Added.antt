@@ -12,7 +12,7 @@ use Rattle.protocol.specs.Tickets.{aFree, aLogin}
 use Rattle.protocol.specs.Records.{Rec, freeRec, ownRight, fieldsRight, sinceRight, serialRight, expiryRight}
 use Rattle.protocol.specs.Table.{Table, recAt, putAt, allRight, slotFrom, slotWhere, serialTaken, serialsDiffer, countKind, loginCap}
 use Rattle.protocol.specs.Steps.{slotFor, roomFor, add}
-use Rattle.protocol.proofs.Laws.{both, recRight, right-cons, right-own, Rules}
+use Rattle.protocol.proofs.Laws.{both, recRight, right-cons, right-own, Rules, or-both, and-false, or-true}
 use Rattle.protocol.proofs.Kept.{right-all, right-slot, other-right, put-other, put-same, Unnamed, leaf-unnamed, recs3}
 
 -- What the search for a slot finds: none, or one from k on whose record passes the test
@@ -63,10 +63,6 @@ free-found k (r ∷ rs) h c = free-here k (isFree r) (slotFrom (k + 1) isFree rs
 
 -- Serials
 
-and-false : (a b : Bool) → b ≡ false → a && b ≡ false
-and-false true b e = e
-and-false false b e = refl
-
 -- a record in the table has a serial below the next
 below-next : (c n : ℕ) (r : Rec) (z : Bool) → eqb (r .kind) aFree ≡ z → 1 ≤ n
     → if z (eqb (r .serial) 0 && eqb (r .expiry) 0) (serialRight n (r .serial) && expiryRight c r) ≡ true → not z && eqb (r .serial) n ≡ false
@@ -90,16 +86,12 @@ fresh-serial c n slots (r ∷ rs) e h =
     let l = own-life c n r (right-own c n slots r (p .0)) in
     rw (below-next c n r (eqb (r .kind) aFree) refl h (l .1)) (fresh-serial c n slots rs (p .1) h)
 
-or-split : (a b : Bool) → a || b ≡ false → (a ≡ false) × (b ≡ false)
-or-split true b e = absurd (let z : _≡_ {A = ℕ} 0 1 = cc in omega arith)
-or-split false b e = (refl, e)
-
 taken-set : (x : ℕ) (r : Rec) (rs : List Rec) (i : ℕ) → serialTaken x rs ≡ false → not (eqb (r .kind) aFree) && eqb (r .serial) x ≡ false → serialTaken x (set rs i r) ≡ false
 unfolding serialTaken
 taken-set x r [] i e h = e
-taken-set x r (q ∷ rs) zero e h = rw h (or-split (not (eqb (q .kind) aFree) && eqb (q .serial) x) (serialTaken x rs) e .1)
+taken-set x r (q ∷ rs) zero e h = rw h (or-both (not (eqb (q .kind) aFree) && eqb (q .serial) x) (serialTaken x rs) e .1)
 taken-set x r (q ∷ rs) (suc i) e h =
-    let p = or-split (not (eqb (q .kind) aFree) && eqb (q .serial) x) (serialTaken x rs) e in
+    let p = or-both (not (eqb (q .kind) aFree) && eqb (q .serial) x) (serialTaken x rs) e in
     rw (p .0) (taken-set x r rs i (p .1) h)
 
 -- q stays apart from a set, where the new serial is not its own
@@ -115,18 +107,14 @@ pub differ-set : (r : Rec) (rs : List Rec) (i : ℕ) → serialsDiffer rs ≡ tr
 unfolding serialsDiffer serialTaken
 differ-set r [] i e h = e
 differ-set r (q ∷ rs) zero e h =
-    let p = or-split (not (eqb (q .kind) aFree) && eqb (q .serial) (r .serial)) (serialTaken (r .serial) rs) h in
+    let p = or-both (not (eqb (q .kind) aFree) && eqb (q .serial) (r .serial)) (serialTaken (r .serial) rs) h in
     let d = both (eqb (q .kind) aFree || not (serialTaken (q .serial) rs)) (serialsDiffer rs) e in
-    rw (p .1, d .1) (last (eqb (r .kind) aFree))
-  where
-    last : (z : Bool) → (z || true) && true ≡ true
-    last true = refl
-    last false = refl
+    rw (p .1, d .1, or-true (eqb (r .kind) aFree))
 differ-set r (q ∷ rs) (suc i) e h =
-    let p = or-split (not (eqb (q .kind) aFree) && eqb (q .serial) (r .serial)) (serialTaken (r .serial) rs) h in
+    let p = or-both (not (eqb (q .kind) aFree) && eqb (q .serial) (r .serial)) (serialTaken (r .serial) rs) h in
     let d = both (eqb (q .kind) aFree || not (serialTaken (q .serial) rs)) (serialsDiffer rs) e in
     rw (apart (eqb (q .kind) aFree) (serialTaken (q .serial) rs) (serialTaken (q .serial) (set rs i r)) (eqb (q .serial) (r .serial)) (p .0)
-    (λ a s. taken-set (q .serial) r rs i a (and-false (not (eqb (r .kind) aFree)) (eqb (r .serial) (q .serial)) (eqb-turn (q .serial) (r .serial) s))) (d .0))
+    (λ a s. taken-set (q .serial) r rs i a (rw (eqb-turn (q .serial) (r .serial) s) (and-false (not (eqb (r .kind) aFree))))) (d .0))
     (differ-set r rs i (d .1) (p .1))
 
 -- Counting

@@ -14,7 +14,7 @@ use Rattle.protocol.specs.Bytes.{allWithin}
 use Rattle.protocol.specs.Table.{Table, tableOf, recAt, putAt, sessionRight, parentRight, grantRight, allRight, serialTaken, serialsDiffer, countKind, lastTime}
 use lib.Seq.{getD-set-other, getD-set-same}
 use Rattle.protocol.specs.Steps.{clearRec, endRec, tick, remove, endSession}
-use Rattle.protocol.proofs.Laws.{both, recRight, right-cons, Rules, rules}
+use Rattle.protocol.proofs.Laws.{both, recRight, right-cons, Rules, rules, or-both}
 
 -- a free record keeps every rule
 pub free-right : (c n : ℕ) (slots : List Rec) → recRight c n slots freeRec ≡ true
@@ -42,17 +42,13 @@ pub data Pruned : List Rec → List Rec → Type 0 where
   stays : {r : Rec} {rs ss : List Rec} → Pruned rs ss → Pruned (r ∷ rs) (r ∷ ss)
   goes : {r : Rec} {rs ss : List Rec} → Pruned rs ss → Pruned (r ∷ rs) (freeRec ∷ ss)
 
-or-false : (a b : Bool) → a || b ≡ false → (a ≡ false) × (b ≡ false)
-or-false true b e = absurd (let z : _≡_ {A = ℕ} 0 1 = cc in omega arith)
-or-false false b e = (refl, e)
-
 pub pruned-taken : (x : ℕ) {rs ss : List Rec} → Pruned rs ss → serialTaken x rs ≡ false → serialTaken x ss ≡ false
 unfolding serialTaken
 pruned-taken x none-left e = e
 pruned-taken x (stays {r = r} {rs = rs} p) e =
-    let q = or-false (not (eqb (r .kind) aFree) && eqb (r .serial) x) (serialTaken x rs) e in
+    let q = or-both (not (eqb (r .kind) aFree) && eqb (r .serial) x) (serialTaken x rs) e in
     rw (q .0) (pruned-taken x p (q .1))
-pruned-taken x (goes {r = r} {rs = rs} p) e = pruned-taken x p (or-false (not (eqb (r .kind) aFree) && eqb (r .serial) x) (serialTaken x rs) e .1)
+pruned-taken x (goes {r = r} {rs = rs} p) e = pruned-taken x p (or-both (not (eqb (r .kind) aFree) && eqb (r .serial) x) (serialTaken x rs) e .1)
 
 alone : (f a b : Bool) → (a ≡ false → b ≡ false) → f || not a ≡ true → f || not b ≡ true
 alone true a b h e = refl
@@ -106,10 +102,6 @@ pub data SessionView (slots : List Rec) (r : Rec) : Type 0 where
   named : 3 ≤ r .kind → recAt (r .session) slots .kind ≡ 2 → r .expiry ≤ recAt (r .session) slots .expiry
       → (r .kind ≡ 6 → r .expiry ≡ recAt (r .session) slots .expiry) → SessionView slots r
 
-or-first : (a b : Bool) → a || b ≡ false → a ≡ false
-or-first false b e = refl
-or-first true b e = e
-
 session-cases : (slots : List Rec) (r : Rec) (z w : Bool) → ltb (r .kind) aService ≡ z → eqb (r .kind) aGrant || eqb (r .kind) aVisit ≡ w
     → if z (eqb (r .session) 0) (eqb (recAt (r .session) slots .kind) aSession && (if w (eqb (r .expiry) (recAt (r .session) slots .expiry)) (leb (r .expiry) (recAt (r .session) slots .expiry)))) ≡ true
     → SessionView slots r
@@ -120,7 +112,7 @@ session-cases slots r false true h g e =
     named (ltb-false (r .kind) 3 h) (eqb-true (recAt (r .session) slots .kind) 2 (p .0)) (omega arith) (λ k. q)
 session-cases slots r false false h g e =
     let p = both (eqb (recAt (r .session) slots .kind) aSession) (leb (r .expiry) (recAt (r .session) slots .expiry)) e in
-    named (ltb-false (r .kind) 3 h) (eqb-true (recAt (r .session) slots .kind) 2 (p .0)) (leb-true (r .expiry) (recAt (r .session) slots .expiry) (p .1)) (λ k. absurd (eqb-false (r .kind) 6 (or-first (eqb (r .kind) aGrant) (eqb (r .kind) aVisit) g) k))
+    named (ltb-false (r .kind) 3 h) (eqb-true (recAt (r .session) slots .kind) 2 (p .0)) (leb-true (r .expiry) (recAt (r .session) slots .expiry) (p .1)) (λ k. absurd (eqb-false (r .kind) 6 (or-both (eqb (r .kind) aGrant) (eqb (r .kind) aVisit) g .0) k))
 
 pub session-view : (slots : List Rec) (r : Rec) → sessionRight slots r ≡ true → SessionView slots r
 unfolding sessionRight
@@ -147,10 +139,10 @@ parent-cases : (slots : List Rec) (r : Rec) (z v w d : Bool) (x : ℕ) → ltb (
 parent-cases slots r true v w d x h g e = orphan (eqb-true (r .parent) 0 e)
 parent-cases slots r false true w d x h g e =
     of-session (ltb-false (r .kind) 3 h) (λ q. absurd (let y : _≡_ {A = Bool} false true = rw q at g in let z : _≡_ {A = ℕ} 0 1 = ap (λ (b : Bool). if b 1 0) y in omega arith)) (eqb-true (r .parent) (r .session) e)
-parent-cases slots r false false true d x h g e = grant-view slots r (above (r .kind) (ltb-false (r .kind) 3 h) (eqb-false (r .kind) 3 (or-first (eqb (r .kind) aService) (eqb (r .kind) aVisit) g))) e
+parent-cases slots r false false true d x h g e = grant-view slots r (above (r .kind) (ltb-false (r .kind) 3 h) (eqb-false (r .kind) 3 (or-both (eqb (r .kind) aService) (eqb (r .kind) aVisit) g .0))) e
 parent-cases slots r false false false true x h g e = orphan (eqb-true (r .parent) 0 e)
 parent-cases slots r false false false false x h g e =
-    grant-view slots r (above (r .kind) (ltb-false (r .kind) 3 h) (eqb-false (r .kind) 3 (or-first (eqb (r .kind) aService) (eqb (r .kind) aVisit) g))) (both (grantRight slots r) (eqb (r .depth) x) e .0)
+    grant-view slots r (above (r .kind) (ltb-false (r .kind) 3 h) (eqb-false (r .kind) 3 (or-both (eqb (r .kind) aService) (eqb (r .kind) aVisit) g .0))) (both (grantRight slots r) (eqb (r .depth) x) e .0)
 
 pub parent-view : (slots : List Rec) (r : Rec) → parentRight slots r ≡ true → ParentView slots r
 unfolding parentRight

@@ -1,6 +1,6 @@
 -- Laws of bytes, blocks and tables that everybody cites. Assumes nothing.
 use mathlib.Core.Path.{_≡_, refl, sym, ap, _∙_}
-use mathlib.Core.Bool.{Bool, true, false, _&&_}
+use mathlib.Core.Bool.{Bool, true, false, _&&_, _||_}
 use mathlib.Core.List.{List, [], _∷_, _++_, append-assoc, append-nil, map}
 use Prim.Native.Nat.{ℕ, zero, suc, _+_, _-_, _*_, _/_, _^_, _<_, _≤_}
 use native.Mathlib.Nat.{pow-suc, mul-comm}
@@ -21,6 +21,24 @@ use Rattle.protocol.specs.Table.{Table, headBody, encodeTable, decodeTab
 pub both : (a b : Bool) → a && b ≡ true → (a ≡ true) × (b ≡ true)
 both true b e = (refl, e)
 both false b e = absurd (let z : _≡_ {A = ℕ} 0 1 = cc in omega arith)
+
+pub or-both : (a b : Bool) → a || b ≡ false → (a ≡ false) × (b ≡ false)
+or-both true b e = absurd (let z : _≡_ {A = ℕ} 0 1 = cc in omega arith)
+or-both false b e = (refl, e)
+
+pub and-false : (a : Bool) → a && false ≡ false
+and-false true = refl
+and-false false = refl
+
+pub or-true : (a : Bool) → a || true ≡ true
+or-true true = refl
+or-true false = refl
+
+-- tests that pass alike are one
+pub one-test : (a b : Bool) → (a ≡ true → b ≡ true) → (b ≡ true → a ≡ true) → a ≡ b
+one-test true b f g = sym (f refl)
+one-test false true f g = g refl
+one-test false false f g = refl
 
 pub and-assoc : (a b c : Bool) → a && (b && c) ≡ a && b && c
 and-assoc true b c = refl

@@ -16,7 +16,7 @@ use Rattle.protocol.specs.Request.{loginNames, logoutNames, bodyNames, m
 use Rattle.protocol.specs.Answers.{ErrorPage, SignedIn, SignedOut, RedirectTo}
 use Rattle.protocol.specs.Steps.{Brought, Step, step, remove, endSession, isNamed, slotNamed, sessionOf, slotFor, roomFor, expiryFor, newRec, add, formWith, formStep, ticketWith, ticketStep, signedOn, loginPage, unknownService, loginGet, admitted, newSession, needs, issueAll, accepted, credentials, loginTicket, loginPost, linkTo, logout}
 use Rattle.protocol.specs.declared.Path.the-variants as path
-use Rattle.protocol.proofs.Laws.{both, recRight}
+use Rattle.protocol.proofs.Laws.{both, recRight, or-both}
 use Rattle.protocol.proofs.Kept.{recs3, same-links, put-other, put-same, leaf-unnamed}
 use Rattle.protocol.proofs.Added.{Room, room-one, slot-chosen}
 use Rattle.protocol.proofs.Sound.{Sound, login-kind, session-kind, service-kind, new-fits, new-own, add-sound, remove-sound, end-sound}
@@ -129,10 +129,6 @@ slot-live kind text t h =
     record { some = h; is = eqb-true (r .kind) kind (b .0); lasts = ltb-true (t .clock) (r .expiry) (b .1) }
 
 -- Values
-
-pub or-both : (a b : Bool) → a || b ≡ false → (a ≡ false) × (b ≡ false)
-or-both true b e = absurd (let z : _≡_ {A = ℕ} 0 1 = cc in omega arith)
-or-both false b e = (refl, e)
 
 pub filled : (s : List ℕ) → isEmpty s ≡ false → 1 ≤ length s
 filled [] e = absurd (let z : _≡_ {A = ℕ} 0 1 = cc in omega arith)

@@ -19,11 +19,11 @@ use Rattle.protocol.specs.Steps.{Brought, Step, step, put, remove, isNam
 use Rattle.protocol.specs.declared.Validator.{Validator}
 use Rattle.protocol.specs.declared.Validator.the-variants as validator
 use Rattle.protocol.specs.Held.{Fits}
-use Rattle.protocol.proofs.Laws.{both, Own, own, recRight, mark-most}
+use Rattle.protocol.proofs.Laws.{both, Own, own, recRight, mark-most, or-both}
 use Rattle.protocol.proofs.Kept.{SessionView, unnamed, named, ParentView, orphan, of-session, of-grant, session-view, parent-view, recs3, right-slot, right-all, other-right, put-other, put-same, Unnamed, leaf-unnamed}
 use Rattle.protocol.proofs.Added.{Room, room-one, slot-chosen, count-set}
 use Rattle.protocol.proofs.Sound.{Sound, proxy-kind, waiting-kind, new-fits, new-own, add-sound, fit-slot, fit-put, length-put}
-use Rattle.protocol.proofs.StepSound.{case-sound, slot-within, new-session, linked, Live, slot-live, or-both, filled, good-value, spend-sound, nonzero}
+use Rattle.protocol.proofs.StepSound.{case-sound, slot-within, new-session, linked, Live, slot-live, filled, good-value, spend-sound, nonzero}
 
 -- A live service or proxy ticket
 

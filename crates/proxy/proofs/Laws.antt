@@ -23,6 +23,7 @@ use Rattle.protocol.proofs.Told.{only-said}
 use Rattle.protocol.proofs.Kept.{SessionView, unnamed, named, session-view, recs3, right-slot}
 use Rattle.protocol.proofs.StepSound.{slot-live, slot-within}
 use Rattle.protocol.specs.Calls.{bringing}
+use Rattle.protocol.proofs.Laws.{or-true}
 use Rattle.offer.proofs.Laws.{none-given, some-given}
 use Rattle.find.specs.Searches.{foundAt}
 use Rattle.find.specs.declared.Found.{Found}
@@ -99,11 +100,6 @@ module _ (b o o′ pgt target : List ℕ) (g : Brought) {r : Outcome} {f : Found
   pub no-grant : f ≡ Nothing → Fine b → Said (ProxyFailure BadPgt) r o o′ → Done (proxyFor pgt target g (decodeTable b)) r b o o′
   unfolding proxyFor proxyBy
   no-grant a h s = rw (eq-eqb (slotNamed aGrant pgt (decodeTable b)) 0 (found-none (slotNamed aGrant pgt (decodeTable b)) e a)) (only-said h s)
-
--- the request
-or-true : (a : Bool) → a || true ≡ true
-or-true true = refl
-or-true false = refl
 
 module _ (q : List ℕ) {x : ProxyQuery} (e : x ≡ proxyQueryOf q) where
   pub proxy-refused : (b o o′ : List ℕ) (g : Brought) {r : Outcome} → x ≡ proxy-query.Malformed → Fine b → Said (ProxyFailure InvalidRequest) r o o′ → Done (proxy q g (decodeTable b)) r b o o′

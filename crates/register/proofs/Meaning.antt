@@ -13,23 +13,18 @@ use lib.Seq.{drop-drop, getD-take, getD-drop, length-take-le}
 use Rattle.protocol.specs.Bytes.{if, same, allDiffer, within, allWithin, padTo, part, num, bytesOf, joined}
 use Rattle.protocol.specs.Blocks.{houseCheck, sealed, checkRight}
 use Rattle.protocol.specs.Register.{Entry, entryBody, encodeEntry, decodeEntry, decodeRegister, addressRight, entryRight, allEntriesRight, servicesOf, registerShape, registerLawful}
-use Rattle.protocol.proofs.Laws.{both, same-append, length-bytes, length-pad, part-long}
+use Rattle.protocol.proofs.Laws.{both, same-append, length-bytes, length-pad, part-long, and-false, one-test}
 use Rattle.protocol.proofs.Panels.{Short, length-entry}
-use Rattle.block.proofs.Bytewise.{one-test, front-test, field-own, text-own, sealed-test, Bytes}
+use Rattle.block.proofs.Bytewise.{front-test, field-own, text-own, sealed-test, Bytes}
 use Rattle.register.specs.Blockwise.{Sizes, secure, textsRight, blockRight, blocksRight, entries}
 use Rattle.register.proofs.Laws.{limit-service, limit-callback, service-number, callback-number, register-entries}
 
--- tests in any order
-and-none : (a : Bool) → a && false ≡ false
-and-none true = refl
-and-none false = refl
-
 -- the first two that the meaning has are the last of the code
 in-order : (c a z b y s : Bool) → z && y && c && (a && b && s) ≡ c && a && z && b && y && s
-in-order false a z b y s = ap (λ (t : Bool). t && (a && b && s)) (and-none (z && y))
-in-order true false z b y s = and-none (z && y && true)
+in-order false a z b y s = ap (λ (t : Bool). t && (a && b && s)) (and-false (z && y))
+in-order true false z b y s = and-false (z && y && true)
 in-order true true false b y s = refl
-in-order true true true false y s = and-none (y && true)
+in-order true true true false y s = and-false (y && true)
 in-order true true true true false s = refl
 in-order true true true true true s = refl
 
@@ -96,7 +91,7 @@ module _ (b : List ℕ) (h : length b ≡ 512) (y : (i : ℕ) → getD b i 0 < 2
   block-test = go (within 1 200 n && leb m 200) refl
     where
       go : (t : Bool) → within 1 200 n && leb m 200 ≡ t → same b (encodeEntry e) && entryRight e ≡ if t (textsRight n m b) false
-      go false q = ap (λ (t : Bool). same b (encodeEntry e) && t) (entry-test ∙ rw q) ∙ and-none (same b (encodeEntry e))
+      go false q = ap (λ (t : Bool). same b (encodeEntry e) && t) (entry-test ∙ rw q) ∙ and-false (same b (encodeEntry e))
       go true q = ap (λ (t : Bool). same b (encodeEntry e) && t) (entry-test ∙ rw q) ∙ within-test (limit-service n m q) (limit-callback n m q)
 
   -- an entry that keeps the rules is short
@@ -124,7 +119,7 @@ drop-bytes b k y i = rw (getD-drop k b i 0) (y (k + i))
 paired : (p q r s : Bool) → p && q && (r && s) ≡ p && r && (q && s)
 paired false q r s = refl
 paired true q true s = refl
-paired true q false s = and-none q
+paired true q false s = and-false q
 
 whole-test : (m : ℕ) (b : List ℕ) → length b ≡ 512 * m → ((i : ℕ) → getD b i 0 < 256) → same b (joined (map encodeEntry (entries m b))) && allEntriesRight (entries m b) ≡ blocksRight m b
 unfolding entries joined allEntriesRight blocksRight same
@@ -141,8 +136,8 @@ whole-test (suc m) b h y =
         → same z (joined (map encodeEntry (entries m z))) && allEntriesRight (entries m z) ≡ blocksRight m z → (t : Bool) → entryRight (decodeEntry x) ≡ t
         → same b (encodeEntry (decodeEntry x) ++ joined (map encodeEntry (entries m z))) && (entryRight (decodeEntry x) && allEntriesRight (entries m z)) ≡ blockRight x && blocksRight m z
     first-and-rest b x z m eb lx yx later false q =
-        let f : blockRight x ≡ false = sym (block-test x lx yx) ∙ rw q (and-none (same x (encodeEntry (decodeEntry x)))) in
-        rw (q, f) (and-none (same b (encodeEntry (decodeEntry x) ++ joined (map encodeEntry (entries m z)))))
+        let f : blockRight x ≡ false = sym (block-test x lx yx) ∙ rw q (and-false (same x (encodeEntry (decodeEntry x)))) in
+        rw (q, f) (and-false (same b (encodeEntry (decodeEntry x) ++ joined (map encodeEntry (entries m z)))))
     first-and-rest b x z m eb lx yx later true q =
         let l : length (encodeEntry (decodeEntry x)) ≡ 512 = length-entry (decodeEntry x) (right-short x lx yx q) in
         let s : same b (encodeEntry (decodeEntry x) ++ joined (map encodeEntry (entries m z))) ≡ same x (encodeEntry (decodeEntry x)) && same z (joined (map encodeEntry (entries m z))) =

@@ -13,6 +13,7 @@ use Rattle.protocol.specs.Request.{rawValue, occurrences, decoded, valueMost, c
 use Rattle.protocol.specs.Written.{Room, Wrote}
 use Rattle.protocol.specs.declared.Validator.{Validator}
 use Rattle.protocol.specs.declared.Validator.the-variants as validator
+use Rattle.protocol.proofs.Laws.{or-true}
 use Rattle.decode.specs.Judging.{judged, judgedName as judgedUser}
 use Rattle.decode.specs.declared.Judged.{Judged}
 use Rattle.decode.specs.declared.Judged.the-variants.{Bad, Good}
@@ -70,11 +71,6 @@ module _ (inBody : Bool) (q name : List ℕ) (n : ℕ) (en : n ≡ occurrences n
       pub name-other : u ≡ false → r ≡ judged inBody 32 126 most raw → r ≡ judgedName inBody q name
       unfolding charsRight judged
       name-other g k = judged-as (allWithin 32 126 (decoded inBody raw)) (rw (← et, f, ← eu, g)) k
-
--- one name after the other
-or-true : (b : Bool) → b || true ≡ true
-or-true true = refl
-or-true false = refl
 
 told-bad : (b : Bool) (k : ℕ) → Bad ≡ if b Bad (Good k) → b ≡ true
 told-bad true k e = refl

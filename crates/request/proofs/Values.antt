@@ -18,8 +18,8 @@ use Rattle.protocol.specs.Request.{rawValue, decoded, valueMost, charsRight, va
 use Rattle.protocol.specs.Written.{Wrote}
 use Rattle.protocol.specs.declared.Validator.{Validator}
 use Rattle.protocol.specs.declared.Validator.the-variants as validator
-use Rattle.protocol.proofs.Laws.{both}
-use Rattle.protocol.proofs.StepSound.{or-both, good-value}
+use Rattle.protocol.proofs.Laws.{both, or-both}
+use Rattle.protocol.proofs.StepSound.{good-value}
 use Rattle.utf8.proofs.Small.{name-bytes}
 use Rattle.request.specs.Requests.{Ready, callbackLength, loginQueryOf, loginBodyOf, logoutQueryOf, validatorQueryOf, proxyQueryOf}
 use Rattle.request.specs.Given.{LoginGiven, BodyGiven, LogoutGiven, ValidatorGiven, ProxyGiven}

@@ -14,11 +14,11 @@ use Rattle.protocol.specs.Bytes.{if, ascii, same, within, allWithin, zeros, pad
 use Rattle.protocol.specs.Tickets.{aWaiting, lifetime, secretLength, markMost, depthLeast, depthMost, textLeast, textMost}
 use Rattle.protocol.specs.Records.{decodeRec, recBody, fieldsRight, serialRight, expiryRight, sinceRight, ownRight, textRight as recTextRight, lettersRight}
 use Rattle.protocol.specs.Table.{headBody, lastTime}
-use Rattle.protocol.proofs.Laws.{both, length-bytes, length-pad, text-most, part-long}
+use Rattle.protocol.proofs.Laws.{both, length-bytes, length-pad, text-most, part-long, and-false, one-test}
 use Rattle.protocol.proofs.Sizes.{secret-most}
 use Rattle.rules.specs.declared.Numbers.{Numbers}
 use Rattle.rules.specs.Tests.{numbersOf, limitsRight, lifeRight, secretsRight, textRight, gapsZero}
-use Rattle.block.proofs.Bytewise.{Bytes, one-test, front-test, same-zeros, field-own, field-test, two-own, one-and-zero, full-own, text-own}
+use Rattle.block.proofs.Bytewise.{Bytes, front-test, same-zeros, field-own, field-test, two-own, one-and-zero, full-own, text-own}
 
 -- A record's bytes
 
@@ -28,10 +28,6 @@ drop-part b at n i h g =
     let e : n ≡ i + (n - i) = omega arith in
     ap (λ (m : ℕ). drop i (part at m b)) e ∙ (ap (drop i) (take-add i (n - i) (drop at b))
     ∙ (drop-at (part at i b) (take (n - i) (drop i (drop at b))) i (part-long at i b (omega arith)) ∙ rw (drop-drop i at b)))
-
-and-false : (a : Bool) → a && false ≡ false
-and-false true = refl
-and-false false = refl
 
 -- a text is as long as its length field says, or both are too long for any kind
 text-length : (b : List ℕ) (k n : ℕ) → length b ≡ 512 → within (textLeast k) (textMost k) (length (part 44 n b)) ≡ within (textLeast k) (textMost k) n

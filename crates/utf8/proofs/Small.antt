@@ -9,6 +9,7 @@ use borrow.Author.Tests.{le-ltb, le-leb, lt-leb}
 use lib.Dec.{eqb, ltb, leb, lit≤}
 use Rattle.protocol.specs.Bytes.{if, within, allWithin}
 use Rattle.protocol.specs.Utf8.{nameRight}
+use Rattle.protocol.proofs.Laws.{and-false}
 use Rattle.utf8.specs.declared.Next.{Next}
 use Rattle.utf8.specs.declared.Next.the-variants.{Start, Tail, Bad}
 use Rattle.utf8.specs.Machine.{begun, tailed, followed, judgedFrom}
@@ -45,11 +46,6 @@ unfolding tailed
 followed-narrow Start b = begun-narrow b
 followed-narrow (Tail lo hi more) b = either (within lo hi b) _ _ (either (eqb more 0) _ _ tt (lit≤ tt)) tt
 followed-narrow Bad b = tt
-
--- a greater number is bad
-and-false : (a : Bool) → a && false ≡ false
-and-false true = refl
-and-false false = refl
 
 followed-large : (state : Next) (b : ℕ) → Narrow state → 256 ≤ b → followed state b ≡ Bad
 unfolding begun tailed

@@ -20,8 +20,7 @@ use Rattle.protocol.specs.Held.{Said, Done, Lent}
 use Rattle.protocol.specs.declared.Outcome.{Outcome}
 use Rattle.protocol.specs.declared.Validator.{Validator}
 use Rattle.protocol.specs.declared.Validator.the-variants as validator
-use Rattle.protocol.proofs.Laws.{same-eq}
-use Rattle.protocol.proofs.StepSound.{or-both}
+use Rattle.protocol.proofs.Laws.{same-eq, or-both, or-true}
 use Rattle.protocol.proofs.TicketSound.{url-good}
 use Rattle.protocol.proofs.Told.{only-said, done-as}
 use Rattle.protocol.specs.Calls.{bringing}
@@ -94,10 +93,6 @@ empty (c ∷ s) e = absurd (omega arith)
 some : (s : List ℕ) → (length s ≡ 0 → ⊥) → isEmpty s ≡ false
 some [] e = absurd (e refl)
 some (c ∷ s) e = refl
-
-or-true : (a : Bool) → a || true ≡ true
-or-true true = refl
-or-true false = refl
 
 -- (1) by what is asked
 
