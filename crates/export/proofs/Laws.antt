@@ -2,19 +2,18 @@
 use mathlib.Core.Path.{_≡_, refl, sym, ap, _∙_}
 use mathlib.Core.Bool.{Bool, true, false}
 use mathlib.Core.List.{List, [], _∷_}
-use Prim.Native.Nat.{ℕ, suc, _+_, _≤_}
+use Prim.Native.Nat.{ℕ}
 use native.Mathlib.Omega.{arith}
 use borrow.Author.Tests.{eq-eqb, ne-eqb}
-use lib.Dec.{eqb}
 use lib.ListN.{length, set}
 use Rattle.protocol.specs.Answers.{numberOf}
-use Rattle.protocol.specs.Calls.{Inputs, inputs, Result, result, answerOf, finishOf, FormRead, formRead, formOf}
+use Rattle.protocol.specs.Calls.{inputs, result, answerOf, finishOf, FormRead, formRead, formOf}
 use Rattle.protocol.specs.Visits.{visitRead, visitOf}
 use Rattle.protocol.specs.declared.Method.{Method}
 use Rattle.protocol.specs.declared.Outcome.{Outcome}
 use Rattle.protocol.specs.declared.Form.{Form}
 use Rattle.protocol.specs.declared.Visit.{Visit}
-use Rattle.export.specs.Numbers.{flag, methodOf, outcomeNumbers, formNumbers, visitNumbers, Handed, handed, handedResult, answerHanded, finishHanded, handedVisit, visitHanded, HandedForm, handedForm, formHanded}
+use Rattle.export.specs.Numbers.{flag, methodOf, outcomeNumbers, formNumbers, visitNumbers, handed, handedResult, answerHanded, finishHanded, handedVisit, visitHanded, handedForm, formHanded}
 
 seven : (l : List ℕ) (a b c d e f g : ℕ) → length l ≡ 7 → set (set (set (set (set (set (set l 0 a) 1 b) 2 c) 3 d) 4 e) 5 f) 6 g ≡ a ∷ b ∷ c ∷ d ∷ e ∷ f ∷ g ∷ []
 seven [] a b c d e f g h = absurd (omega arith)

@@ -6,7 +6,7 @@ use lib.Dec.{eqb}
 use lib.ListN.{length}
 use Rattle.protocol.specs.Bytes.{if}
 use Rattle.protocol.specs.Answers.{numberOf}
-use Rattle.protocol.specs.Calls.{Inputs, Result, answerOf, finishOf, FormRead, formOf}
+use Rattle.protocol.specs.Calls.{Inputs, Result, answerOf, finishOf, formOf}
 use Rattle.protocol.specs.Visits.{VisitRead, visitOf}
 use Rattle.protocol.specs.declared.Method.{Method}
 use Rattle.protocol.specs.declared.Method.the-variants as method

@@ -18,7 +18,7 @@ use Rattle.protocol.specs.declared.Outcome.{Outcome}
 use Rattle.protocol.proofs.Laws.{both}
 use Rattle.protocol.proofs.Added.{slot-chosen}
 use Rattle.protocol.proofs.Sizes.{iou-most}
-use Rattle.protocol.proofs.Held.{fits-of}
+use Rattle.protocol.proofs.Held.{fits-of, sound-held, session-in}
 use Rattle.protocol.proofs.Told.{said-done, only-said, done-as}
 use Rattle.text.proofs.Splice.{read-back}
 use Rattle.find.specs.declared.Found.{Found}
@@ -26,7 +26,7 @@ use Rattle.find.specs.declared.Found.the-variants.{At, Nothing}
 use Rattle.find.specs.Searches.{foundAt}
 use Rattle.find.proofs.Laws.{found-is, found-low, found-none, waiting-slot}
 use Rattle.chain.specs.Walk.{Told}
-use Rattle.chain.proofs.Links.{session-in, parent-within}
+use Rattle.chain.proofs.Links.{parent-within}
 use Rattle.finish.specs.Waits.{Waits}
 
 module _ (b : List ℕ) (k : ℕ) (w : Waits k b) where
@@ -34,7 +34,7 @@ module _ (b : List ℕ) (k : ℕ) (w : Waits k b) where
   slots = decodeTable b .slots
 
   pub waits-session : In (recAt k slots .session) b
-  waits-session = session-in b (w .lawful) k (omega (arith, w .kind))
+  waits-session = session-in b k (sound-held b (w .lawful)) (omega (arith, w .kind))
 
   -- success may be told of it
   module _ (iou o : List ℕ) (s p m : ℕ) (es : s ≡ recAt k slots .session) (ep : p ≡ recAt k slots .parent) (em : m ≡ recAt k slots .mark) where

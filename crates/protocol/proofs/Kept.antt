@@ -14,7 +14,7 @@ use Rattle.protocol.specs.Bytes.{allWithin}
 use Rattle.protocol.specs.Table.{Table, tableOf, recAt, putAt, sessionRight, parentRight, grantRight, allRight, serialTaken, serialsDiffer, countKind, lastTime}
 use lib.Seq.{getD-set-other, getD-set-same}
 use Rattle.protocol.specs.Steps.{clearRec, endRec, tick, remove, endSession}
-use Rattle.protocol.proofs.Laws.{both, recRight, right-cons, Rules, rules, or-both}
+use Rattle.protocol.proofs.Laws.{both, recRight, right-cons, Rules, or-both}
 
 -- a free record keeps every rule
 pub free-right : (c n : ℕ) (slots : List Rec) → recRight c n slots freeRec ≡ true

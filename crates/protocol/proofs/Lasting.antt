@@ -1,18 +1,18 @@
 -- A lawful table stays lawful: after every answer and every finish, and a formatted table is lawful. Assumes nothing.
-use mathlib.Core.Path.{_≡_, refl, sym, ap, _∙_}
+use mathlib.Core.Path.{_≡_, refl, ap, _∙_}
 use mathlib.Core.Bool.{Bool, true, false, _&&_}
-use mathlib.Core.List.{List, [], _∷_, map}
-use Prim.Native.Nat.{ℕ, zero, suc, _+_, _-_, _*_, _/_, _%_, _≤_, _<_}
+use mathlib.Core.List.{List}
+use Prim.Native.Nat.{ℕ, zero, suc, _-_, _/_, _%_, _≤_}
 use native.Mathlib.Omega.{arith}
-use borrow.Author.Tests.{eqb-true, leb-true, eqb-false}
+use borrow.Author.Tests.{eqb-true, leb-true}
 use lib.Dec.{eqb, leb}
 use lib.ListN.{length, drop, replicate, length-map, length-replicate}
 use Rattle.protocol.specs.Bytes.{if, within, blocks}
 use Rattle.protocol.specs.Records.{Rec, freeRec, decodeRec}
-use Rattle.protocol.specs.Table.{Table, encodeTable, decodeTable, tableShape, tableLawful, lastTime, allRight, serialsDiffer, countKind, formatted, loginCap}
+use Rattle.protocol.specs.Table.{Table, decodeTable, tableShape, tableLawful, lastTime, allRight, serialsDiffer, countKind, formatted, loginCap}
 use Rattle.protocol.specs.Register.{registerLawful}
 use Rattle.protocol.specs.Request.{pathNamed, pathPart, queryPart}
-use Rattle.protocol.specs.Steps.{Brought, Step, tick, requestStep, finish}
+use Rattle.protocol.specs.Steps.{Brought, tick, requestStep, finish}
 use Rattle.protocol.specs.Calls.{Inputs, Result, answerRefusal, refusal, brought, stepOf, delivered, unchanged, answerOf, finishRefusal, finishOf, formatRefusal, formatOf, checkOf, unless, sizesRight, requestFits}
 use Rattle.protocol.specs.declared.Method.{Method}
 use Rattle.protocol.specs.declared.Method.the-variants as method

@@ -1,16 +1,15 @@
 -- Any change of one byte of a block is noticed. Assumes nothing.
 use mathlib.Core.Path.{_≡_, refl, sym, ap, _∙_}
-use mathlib.Core.Bool.{Bool, true, false}
+use mathlib.Core.Bool.{true, false}
 use mathlib.Core.List.{List, [], _∷_}
-use Prim.Native.Nat.{ℕ, zero, suc, _+_, _*_, _%_, _-_, _<_, _≤_}
+use Prim.Native.Nat.{ℕ, zero, suc, _+_, _%_, _-_, _<_}
 use native.Mathlib.Nat.{mod-add-mod, add-assoc, mod-lt, not-suc-le-zero, le-of-suc-le-suc}
 use native.Mathlib.Omega.{arith}
 use native.Mathlib.Decide.{decLt}
 use borrow.Author.Tests.{ne-eqb, eqb-true}
-use lib.Dec.{eqb, lit<, lit≤}
-use lib.ListN.{length, take, drop, set, getD, length-drop, length-take}
+use lib.Dec.{lit<}
+use lib.ListN.{length, take, drop, set, getD, length-drop}
 use lib.Seq.{take-set-lt, take-set-le, drop-set-lt, drop-set-add, length-take-le, getD-take, getD-drop}
-use mathlib.Core.List.{_++_}
 use Rattle.protocol.specs.Bytes.{leOf, num, bytesOf}
 use Rattle.protocol.specs.Blocks.{checkFrom, houseCheck, checkRight, sealed}
 use Rattle.protocol.proofs.Laws.{le-bytes, length-bytes}

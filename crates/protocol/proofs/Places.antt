@@ -4,15 +4,15 @@ use mathlib.Core.Bool.{true}
 use mathlib.Core.List.{List, [], _∷_, _++_, append-assoc, map}
 use Prim.Native.Nat.{ℕ, zero, suc, _+_, _-_, _*_, _/_, _≤_, _<_}
 use native.Mathlib.Omega.{arith}
-use lib.ListN.{length, take, drop, getD, set, length-append, length-drop, length-set, length-map, take-append-drop}
-use lib.Seq.{take-at, drop-at, take-append-add, drop-append-add, take-append-seam, drop-drop}
+use lib.ListN.{length, take, drop, getD, set, length-drop, length-set, length-map, take-append-drop}
+use lib.Seq.{take-at, drop-at, take-append-add, drop-append-add, drop-drop}
 use Rattle.protocol.specs.Bytes.{part, num, spliced, joined, blocks}
 use Rattle.protocol.specs.Blocks.{sealed}
 use Rattle.protocol.specs.Records.{Rec, freeRec, encodeRec, decodeRec}
-use Rattle.protocol.specs.Table.{Table, tableOf, headBody, encodeTable, decodeTable, tableLawful, rulesHold, putAt}
+use Rattle.protocol.specs.Table.{Table, tableOf, headBody, encodeTable, decodeTable, tableLawful, rulesHold}
 use Rattle.protocol.specs.Steps.{put}
-use Rattle.protocol.specs.Held.{Fits, AllFit}
-use Rattle.protocol.proofs.Laws.{same-refl, lawful-bytes, lawful-fits, length-rec, length-head, length-records}
+use Rattle.protocol.specs.Held.{AllFit}
+use Rattle.protocol.proofs.Laws.{same-refl, lawful-bytes, lawful-fits, length-rec, length-head}
 
 -- the bytes of the k-th of several records
 joined-part : (rs : List Rec) (k : ℕ) → AllFit rs → k < length rs → part (512 * k) 512 (joined (map encodeRec rs)) ≡ encodeRec (getD rs k freeRec)

@@ -24,7 +24,7 @@ use Rattle.protocol.specs.declared.Validator.the-variants as validator
 use Rattle.protocol.proofs.Laws.{both, part-long, or-both}
 use Rattle.protocol.proofs.Sound.{Sound, fit-slot}
 use Rattle.protocol.proofs.StepSound.{query-service, body-values, good-value, nonzero}
-use Rattle.protocol.proofs.TicketSound.{GoodUrl, url-good, owned, ticket-live, spent-sound, left-sound}
+use Rattle.protocol.proofs.TicketSound.{GoodUrl, url-good, owned, ticket-live, left-sound}
 use Rattle.protocol.proofs.Sizes.{Small, error, in-page, out-page, form, away, word, success, failure, ticket, refusal, call, AllShort, name-most, iou-most}
 use borrow.Author.Tests.{eqb-false}
 

@@ -1,7 +1,6 @@
 -- From what code has said and done to what the calls promise. Assumes nothing.
 use mathlib.Core.Path.{_≡_, refl, sym, ap, _∙_}
-use mathlib.Core.Bool.{Bool, true, false}
-use mathlib.Core.List.{List, []}
+use mathlib.Core.List.{List}
 use Prim.Native.Nat.{ℕ}
 use Rattle.protocol.specs.Bytes.{spliced}
 use Rattle.protocol.specs.Table.{Table, encodeTable, decodeTable}

@@ -6,7 +6,7 @@ use Prim.Native.Nat.{ℕ, _≤_}
 use native.Mathlib.Omega.{arith}
 use lib.Dec.{eqb}
 use lib.ListN.{length, drop, length-append, length-take}
-use Rattle.protocol.specs.Bytes.{ascii, part, hex}
+use Rattle.protocol.specs.Bytes.{ascii, part}
 use Rattle.protocol.specs.Records.{Rec, nameOf}
 use Rattle.protocol.specs.Table.{lastTime}
 use Rattle.protocol.specs.Visits.{logoutRequest, visitText, visitRefusal, visitOf}

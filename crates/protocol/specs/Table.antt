@@ -2,7 +2,7 @@
 -- Block 0: 0-3 `TKTS`, 4-5 count of record blocks, 6 the form of the table, which is 1, 8-15 clock, 16-19 next serial; every other byte is zero, the check last.
 use mathlib.Core.Bool.{Bool, true, false, _&&_, _||_, not}
 use mathlib.Core.List.{List, [], _∷_, _++_, map}
-use Prim.Native.Nat.{ℕ, zero, _+_, _-_, _/_, _%_, _^_}
+use Prim.Native.Nat.{ℕ, _+_, _-_, _/_, _%_, _^_}
 use lib.Dec.{eqb, leb, ltb}
 use lib.ListN.{length, drop, getD, set, replicate}
 use Rattle.protocol.specs.Bytes.{if, ascii, same, within, zeros, num, bytesOf, joined, blocks}

@@ -1,14 +1,14 @@
 -- The numbered examples of document 01, as one table.
 use mathlib.Core.Path.{_≡_, refl}
-use mathlib.Core.Bool.{Bool, true, false}
-use mathlib.Core.List.{List, [], _∷_, _++_}
+use mathlib.Core.Bool.{true, false}
+use mathlib.Core.List.{_∷_, _++_}
 use Prim.Native.Nat.{ℕ}
 use lib.ListN.{length, replicate}
-use Rattle.protocol.specs.Bytes.{ascii, zeros, among, same, allWithin, holds, digits, hex, padTo}
+use Rattle.protocol.specs.Bytes.{ascii, zeros, among, same, allWithin, holds, digits, hex}
 use Rattle.protocol.specs.Blocks.{houseCheck, checkFrom}
-use Rattle.protocol.specs.Tickets.{ticketText, prefix, secretLength, aSession, aService, lifetime, secretFrom, iouFrom}
+use Rattle.protocol.specs.Tickets.{ticketText, aSession, aService, secretFrom, iouFrom}
 use Rattle.protocol.specs.Records.{Rec, freeRec, live}
-use Rattle.protocol.specs.Table.{Table, tableOf, recAt, formatted, slotFrom}
+use Rattle.protocol.specs.Table.{Table, recAt, formatted, slotFrom}
 use Rattle.protocol.specs.Request.{decoded, decodedFrom, unitOf, skipOf, hexValue, valueRight, valueMost, charsRight}
 use Rattle.protocol.specs.Answers.{escaped, escapedByte, extended}
 use Rattle.protocol.specs.Steps.{newRec, expiryFor, add, slotFor, tick}

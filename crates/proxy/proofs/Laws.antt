@@ -1,6 +1,6 @@
 -- Proxy, from its parts to protocol's step. Assumes nothing.
 use mathlib.Core.Path.{_≡_, refl, sym, _∙_}
-use mathlib.Core.Bool.{Bool, true, false, _||_}
+use mathlib.Core.Bool.{Bool, true, false}
 use mathlib.Core.List.{List}
 use Prim.Native.Nat.{ℕ, zero, suc, _≤_}
 use native.Mathlib.Omega.{arith}
@@ -15,7 +15,7 @@ use Rattle.protocol.specs.Register.{decodeRegister, registered}
 use Rattle.protocol.specs.Request.{malformed, proxyNames, fromQuery, valueOf, decoded, rawValue}
 use Rattle.protocol.specs.Written.{Wrote}
 use Rattle.protocol.specs.Answers.{ProxyFailure, InvalidRequest, BadPgt, UnauthorizedService, InternalError}
-use Rattle.protocol.specs.Steps.{Brought, step, slotNamed, roomFor, newRec, proxyWith, proxyBy, proxy}
+use Rattle.protocol.specs.Steps.{Brought, slotNamed, roomFor, newRec, proxyWith, proxyBy, proxy}
 use Rattle.protocol.specs.Held.{Fine, Lawful, In, Said, Done, Lent}
 use Rattle.protocol.specs.declared.Outcome.{Outcome}
 use Rattle.protocol.proofs.Held.{sound-held, slot-in}

@@ -1,8 +1,7 @@
 // The refusals of each call, strictly in the order of document 01's list: the first that applies is answered, 0 for none.
 ghost use mathlib.Core.Path.{_≡_};
-ghost use mathlib.Core.Bool.{_&&_, not};
 ghost use lib.Dec.{leb};
-ghost use Rattle.protocol.specs.Table.{tableLawful, lastTime};
+ghost use Rattle.protocol.specs.Table.{lastTime};
 ghost use Rattle.protocol.specs.Calls.{unless, sizesRight, requestFits, answerRefusal, finishRefusal, formatRefusal, checkOf};
 ghost use Rattle.protocol.specs.Visits.{visitUnless};
 

@@ -5,7 +5,7 @@ ghost use mathlib.Core.Path.{_≡_};
 ghost use mathlib.Core.Bool.{true};
 ghost use Prim.Native.Nat.{_+_, _-_, _*_, _/_, _≤_};
 ghost use lib.ListN.{length, drop};
-ghost use Rattle.protocol.specs.Bytes.{holds, allDiffer, part, num};
+ghost use Rattle.protocol.specs.Bytes.{holds, allDiffer, part};
 ghost use Rattle.protocol.specs.Register.{addressRight, decodeEntry, decodeRegister, registerShape, registerLawful, servicesOf, registered, callbackOf};
 ghost use Rattle.register.specs.Blockwise.{Sizes, secure, textsRight, blockRight, blocksRight, entries};
 

@@ -19,8 +19,8 @@ use Rattle.protocol.specs.declared.Outcome.{Outcome}
 use Rattle.protocol.specs.declared.Validator.{Validator}
 use Rattle.protocol.specs.declared.Validator.the-variants as validator
 use Rattle.protocol.proofs.Laws.{both, rules-hold}
-use Rattle.protocol.proofs.TicketSound.{Ticket, ticket-live, Base, ParentBase, none-above, grant-above, left-sound, left-base}
-use Rattle.protocol.proofs.Held.{sound-held}
+use Rattle.protocol.proofs.TicketSound.{ticket-live, Base, ParentBase, none-above, grant-above, left-sound, left-base}
+use Rattle.protocol.proofs.Held.{sound-held, record-in}
 use Rattle.protocol.proofs.Told.{only-said, done-as}
 use Rattle.protocol.specs.Calls.{bringing}
 use Rattle.find.specs.declared.Found.{Found}
@@ -30,7 +30,6 @@ use Rattle.find.proofs.Laws.{found-is, found-low, found-none, ticket-slot}
 use Rattle.xml.specs.Codes.{codeOf}
 use Rattle.xml.specs.declared.Code.{Code as Written}
 use Rattle.chain.specs.Walk.{Within, Told}
-use Rattle.chain.proofs.Links.{taken-in}
 use Rattle.offer.specs.Offers.{Offer}
 use Rattle.verdict.specs.Verdicts.{verdictOf, Spendable}
 use Rattle.verdict.proofs.Laws.{shown-live}
@@ -145,7 +144,7 @@ module _ (b : List ℕ) (k : ℕ) (l : Lawful b) (z : Spendable k b) where
 
     above-within : (p s : ℕ) → ParentBase (leftBy k ticket (remove k t)) p s → Within p b′
     above-within p s (none-above e) = record { high = omega (arith, h .fine .count) }
-    above-within p s (grant-above e q) = let i = taken-in b′ p (rw (h .is) (omega arith)) in record { high = i .high }
+    above-within p s (grant-above e q) = let i = record-in b′ p (rw (h .is) (omega arith)) in record { high = i .high }
 
     -- what its verdict names
     module _ (v : Validator) (renew : Bool) (service : List ℕ) (x : Verdict) (e : x ≡ verdictOf v renew service (recAt k (decodeTable b .slots))) (s p m : ℕ) (y : x ≡ verdict.Accepted s p m) where
@@ -161,7 +160,7 @@ module _ (b : List ℕ) (k : ℕ) (l : Lawful b) (z : Spendable k b) where
           go false false false q = absurd (let w : _≡_ {A = ℕ} 0 1 = cc in omega arith)
 
       pub session-stays : In s b′
-      session-stays = rw (names .0) (taken-in b′ (ticket .session) (rw (h .is) (omega (arith, stands .is))))
+      session-stays = rw (names .0) (record-in b′ (ticket .session) (rw (h .is) (omega (arith, stands .is))))
 
       pub parent-stays : Within p b′
       parent-stays = rw (names .1) (above-within (proxyParent ticket) (ticket .session) (stands .above))

@@ -1,7 +1,7 @@
 -- The judgement by ranges is the judgement by code points, for every list of numbers. By induction over the text: where a tail
 -- is due, the bits so far are known, and of a byte that may follow every code point is right, of any other none. Assumes nothing.
 use mathlib.Core.Path.{_≡_, refl, sym, ap, _∙_}
-use mathlib.Core.Bool.{Bool, true, false, _&&_, not}
+use mathlib.Core.Bool.{Bool, true, false, _&&_}
 use mathlib.Core.List.{List, [], _∷_}
 use Prim.Native.Nat.{ℕ, zero, suc, _+_, _-_, _*_, _/_, _%_, _≤_, _<_}
 use native.Mathlib.Omega.{arith}
