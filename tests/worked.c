@@ -126,6 +126,8 @@ static void lay_table_and_register(void)
     expect("the check of E1", check_of(one) == 33292289);
     one[0] = 1;
     expect("the check of E2", check_of(one) == 66584578);
+    memset(one, 255, BLOCK);
+    expect("the check of bytes 255", check_of(one) == 284031494U);
     expect("format", pyhtirso_format(table, sizeof table, START) == PYHTIRSO_ANSWERED && stores("0 1 2 3 4 5 6 7 8"));
     write_panel(panels, GATE, BACK);
     write_panel(panels + BLOCK, "https://lamp.lan/", "");
