@@ -1,5 +1,5 @@
-# How C programs are built over the archive, for the scripts of tests and demo to source from the repository's root.
-# The archive is for x86-64; elsewhere the kit's compiler, linker and emulator are used, with the C headers of the machine.
+# How programs in C and C++ are built over the archive, for the scripts of tests and demo to source from the repository's root.
+# The archive is for x86-64; elsewhere the kit's compiler, linker and emulator are used, with the C headers of the machine and no library of C++.
 machine=$(uname -m)
 kit=$(cd "$(dirname "$(rt doc)")/.." && pwd)/on/$machine/toolchain
 archive=target/staticlib/libexport.a
@@ -12,7 +12,9 @@ build_archive() {
 
 # compile_kit SOURCE: to target/tests, by the compiler that makes the archive too.
 compile_kit() {
-    "$kit/bin/clang" --target=x86_64-unknown-linux-gnu -O2 -Wall -Wextra -fPIC -isystem "$("${CC:-cc}" -print-file-name=include)" \
+    local alone=
+    case $1 in *.cpp) alone="-nostdinc++ -fno-exceptions -fno-rtti" ;; esac
+    "$kit/bin/clang" --target=x86_64-unknown-linux-gnu -O2 -Wall -Wextra -fPIC $alone -isystem "$("${CC:-cc}" -print-file-name=include)" \
         -isystem "/usr/include/$machine-linux-gnu" -isystem /usr/include -c -o "target/tests/$(basename "$1" .c).o" "$1"
 }
 
@@ -37,11 +39,12 @@ run_kit() {
 
 # run_c SOURCE ARG...: one program over the archive, by the system's compiler where the archive is of this machine, else by the kit's.
 run_c() {
-    local source=$1 name
+    local source=$1 name compiler=${CC:-cc}
     name=$(basename "$1" .c)
+    case $1 in *.cpp) compiler=${CXX:-c++} ;; esac
     shift
     if [ "$machine" = x86_64 ]; then
-        "${CC:-cc}" -O2 -Wall -Wextra -o "target/tests/$name" "$source" "$archive"
+        "$compiler" -O2 -Wall -Wextra -o "target/tests/$name" "$source" "$archive"
         "target/tests/$name" "$@"
     else
         compile_kit "$source"

@@ -10,7 +10,8 @@
 #define LAMP "https://lamp.lan/"
 
 enum { BLOCKS = 33, PANELS = 2, JAR = COOKIE + 1 };
-enum { PAGE = 1, REDIRECT, WORD, XML, CALLBACK }; /* kinds of answers */
+enum { PAGE = PYHTIRSO_KIND_PAGE, REDIRECT = PYHTIRSO_KIND_REDIRECT, WORD = PYHTIRSO_KIND_TEXT, XML = PYHTIRSO_KIND_XML,
+       CALLBACK = PYHTIRSO_KIND_CALLBACK };
 
 static uint8_t table[BLOCKS * BLOCK], panels[PANELS * BLOCK];
 static uint64_t now; /* the time of the last call */
@@ -66,8 +67,8 @@ static inline uint64_t ask_visit(const char *jar, uint32_t number)
     draw();
     if (!pyhtirso_visit(table, sizeof table, (const uint8_t *)jar, strlen(jar), number, now, random_bytes, RANDOM, out, OUT, visit, PYHTIRSO_VISIT))
         abort();
-    hear(visit[1]);
-    return visit[0];
+    hear(visit[PYHTIRSO_VISIT_LENGTH]);
+    return visit[PYHTIRSO_VISIT_REFUSAL];
 }
 
 /* The text between `from` and the next `to` (or the end) in a text; empty where there is none. */
