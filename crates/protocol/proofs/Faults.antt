@@ -41,7 +41,7 @@ not-true true e = sym e
 not-true false e = refl
 
 -- the blocks behind the first, and those of a front
-behind : (b : List ℕ) (k : ℕ) → part (512 * k) 512 (drop 512 b) ≡ part (512 * suc k) 512 b
+pub behind : (b : List ℕ) (k : ℕ) → part (512 * k) 512 (drop 512 b) ≡ part (512 * suc k) 512 b
 behind b k = let q : 512 * suc k ≡ 512 + 512 * k = omega arith in rw (q, drop-drop (512 * k) 512 b)
 
 in-front : (at n m : ℕ) (s : List ℕ) → at + n ≤ m → part at n (take m s) ≡ part at n s
@@ -59,7 +59,7 @@ unfolding serviceIn
 service-front b j k l = ap (λ (x : List ℕ). decodeEntry x .service) (in-front (512 * j) 512 (512 * k) b (omega arith))
 
 -- what n blocks say
-abbrev said : ℕ → List ℕ → List Entry
+abbrev pub said : ℕ → List ℕ → List Entry
 said n b = map decodeEntry (blocks n 512 b)
 
 -- a service stands in none of them where it is the service of none
@@ -241,7 +241,7 @@ fault-refusal b = go (registerLawful b)
 
 -- a made block is read back, and is a lawful register
 module _ (service callback block : List ℕ) (e : panelRefusal service callback (length block) ≡ 0) where
-  panel-passed : (entryRight (entry service callback) ≡ true) × (length block ≡ 512)
+  pub panel-passed : (entryRight (entry service callback) ≡ true) × (length block ≡ 512)
   unfolding panelRefusal
   panel-passed =
       let p = passes (entryRight (entry service callback)) 3 _ (omega arith) e in
