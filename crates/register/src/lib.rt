@@ -1,13 +1,13 @@
-// The panel register: judged block by block, a service found in it, and the callback of a service handed out as a part of the register's own
-// bytes. A block: 0-1 and 2-3 lengths of service and callback, 4-203 service, 204-403 callback, rest zero before the
+// The panel register: judged block by block, a service found in it, the callback of a service handed out as a part of the register's own
+// bytes, and a block made. A block: 0-1 and 2-3 lengths of service and callback, 4-203 service, 204-403 callback, rest zero before the
 // check.
 use protocol::Fault;
 ghost use mathlib.Core.Path.{_≡_};
 ghost use Prim.Native.Nat.{_+_, _*_, _/_, _≤_};
 ghost use lib.ListN.{length};
 ghost use Rattle.protocol.specs.Bytes.{holds, num, part};
-ghost use Rattle.protocol.specs.Register.{addressRight, entryRight, decodeEntry, decodeRegister, registerShape, registerLawful, registered, callbackOf};
-ghost use Rattle.protocol.specs.Panels.{entry, panelRight, serviceIn, atFault, faultFrom, faultOf};
+ghost use Rattle.protocol.specs.Register.{addressRight, entryRight, encodeEntry, decodeEntry, decodeRegister, registerShape, registerLawful, registered, callbackOf};
+ghost use Rattle.protocol.specs.Panels.{entry, panelRefusal, made, panelOf, panelRight, serviceIn, atFault, faultFrom, faultOf};
 ghost use Rattle.register.specs.Blockwise.{secure, restRight, placeOf};
 
 // ---- the rules of an entry
@@ -211,4 +211,41 @@ pub fn register_lawful(b: &[u8]) -> bool
     ensures { λ r. ⌜ r ≡ registerLawful (now (b .entry)) ⌝ }
 {
     check(b).refusal == 0
+}
+
+// ---- a block made
+
+fn panel_refusal(service: &[u8], callback: &[u8], size: usize) -> u32
+    ensures { λ r. ⌜ r ≡ panelRefusal (now (service .entry)) (now (callback .entry)) size ⌝ }
+{
+    if entry_right(service, callback) {
+        if size == 512 {
+            return 0;
+        }
+        return 4;
+    }
+    3
+}
+
+fn put_entry(b: &mut [u8], service: &[u8], callback: &[u8])
+    requires { ⌜ (length (now b) ≡ 512) × (length (now service) ≤ 200) × (length (now callback) ≤ 200) ⌝ }
+    ensures { λ _. ⌜ now (b .exit) ≡ encodeEntry (entry (now (service .entry)) (now (callback .entry))) ⌝ }
+{
+    block::put(b, 0, 2, service.len() as u64);
+    block::put(b, 2, 2, callback.len() as u64);
+    block::pad_at(b, 4, 200, service);
+    block::pad_at(b, 204, 304, callback);
+    block::seal(b);
+}
+
+// The block of a service and a callback: its refusal, 3 or 4, else 0.
+pub fn panel(service: &[u8], callback: &[u8], block: &mut [u8]) -> u32
+    ensures { λ r. ⌜ made r (now (block .exit)) ≡ panelOf (now (service .entry)) (now (callback .entry)) (now (block .entry)) ⌝ }
+{
+    let number = panel_refusal(service, callback, block.len());
+    if number != 0 {
+        return number;
+    }
+    put_entry(block, service, callback);
+    0
 }
