@@ -105,7 +105,7 @@ static void hear_validation(const char *target)
     s->time = now;
     s->pass = p;
     s->renew = strstr(target, "renew") != 0;
-    s->let_in = outcome[PYHTIRSO_KIND] == CALLBACK || strstr(said, "<cas:authenticationSuccess>") != 0;
+    s->let_in = outcome[PYHTIRSO_KIND] == CALLBACK || outcome[PYHTIRSO_DATA];
     snprintf(s->service, TEXT, "%s", between(target, "service=", "&"));
     snprintf(s->reason, TEXT, "%s", between(said, "code=\"", "\""));
     if (s->let_in) {
@@ -150,9 +150,9 @@ static void clerk_hears(const char *before, const char *after, const char *targe
         snprintf(s->user, TEXT, "%s", user);
         s->ends = now + SESSION_LASTS;
     }
-    if (outcome[PYHTIRSO_KIND] == REDIRECT && strstr(said, "?ticket="))
+    if (outcome[PYHTIRSO_KIND] == REDIRECT && outcome[PYHTIRSO_DATA])
         issue(between(said, "?ticket=", ""), between(said, "", "?ticket="), session_of(after), *user != 0);
-    if (strstr(said, "<cas:proxyTicket>"))
+    if (strstr(target, "/proxy?") && outcome[PYHTIRSO_DATA])
         hear_proxy(target);
     if (strstr(target, "alidate?"))
         hear_validation(target);
@@ -163,7 +163,7 @@ static void clerk_hears_finish(uint64_t serial)
 {
     int i = 0;
     close_waiting(EXPIRED, 0);
-    if (!strstr(said, "<cas:authenticationSuccess>"))
+    if (!outcome[PYHTIRSO_DATA])
         return;
     while (i < n_showings && showings[i].serial != serial)
         i++;

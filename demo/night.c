@@ -75,7 +75,7 @@ static void tell_answer(const char *jar)
     else if (outcome[PYHTIRSO_KIND] == CALLBACK)
         printf("first call the panel back at %s\n", cut(said));
     else if (outcome[PYHTIRSO_KIND] == XML)
-        printf("%s (XML)\n", strstr(said, "Failure") ? "NO" : "YES");
+        printf("%s (XML)\n", outcome[PYHTIRSO_DATA] ? "YES" : "NO");
     else
         printf("a page (%u%s)\n", (unsigned)outcome[PYHTIRSO_STATUS], outcome[PYHTIRSO_STATUS] == 401 ? ", NOT SIGNED IN" : "");
     tell_lines();

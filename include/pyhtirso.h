@@ -1,4 +1,4 @@
-/* Pyhtirso's six calls, for a host in C or C++. Link with libexport.a (`rt staticlib export` writes it, for x86-64).
+/* Pyhtirso's eight calls, for a host in C or C++. Link with libexport.a (`rt staticlib export` writes it, for x86-64).
  * docs/HOST.md has a worked run, docs/RULES.md the rules and every format.
  *
  * Every slice is a pointer and a length. Where the length is 0 the pointer may be any, null too: nothing is read or written through it.
@@ -57,6 +57,7 @@ enum {
     PYHTIRSO_COOKIE_LENGTH,   /* bytes written to the cookie output, 0 for no new cookie */
     PYHTIRSO_COOKIE_CLEARED,  /* 1 where the browser's cookie is to be cleared */
     PYHTIRSO_CALLBACK_SERIAL, /* what finish is to be told after the callback, 0 for none */
+    PYHTIRSO_DATA,            /* 1 where a redirect carries a ticket, text says yes, XML tells of success; else 0 */
     PYHTIRSO_OUTCOME          /* how many numbers an outcome has */
 };
 
@@ -73,6 +74,13 @@ enum {
     PYHTIRSO_VISIT_REFUSAL,
     PYHTIRSO_VISIT_LENGTH, /* bytes written to the output */
     PYHTIRSO_VISIT         /* how many */
+};
+
+/* The places of a register's check. */
+enum {
+    PYHTIRSO_FAULT_REFUSAL,
+    PYHTIRSO_FAULT_BLOCK, /* the first block at fault, from 0; 0 where there is none */
+    PYHTIRSO_FAULT        /* how many */
 };
 
 /* A fresh table at a time, in seconds; gives the refusal number (1, 6). It does not ask what the table held. */
@@ -105,6 +113,16 @@ bool pyhtirso_finish(uint8_t *table, size_t table_len, uint32_t serial, bool ok,
  * list of exactly PYHTIRSO_VISIT; with another length the call writes nothing and gives false. */
 bool pyhtirso_visit(const uint8_t *table, size_t table_len, const uint8_t *cookie, size_t cookie_len, uint32_t number, uint64_t time,
                     const uint8_t *random, size_t random_len, uint8_t *out, size_t out_len, uint64_t *visit, size_t visit_len);
+
+/* Writes the register block of a panel, check included, from its service and its callback, which may be empty; gives the refusal number: 3
+ * where the texts break a register rule, 4 where the buffer is not 512 bytes. A register is 1 to 16 such blocks, no two of one service. */
+uint32_t pyhtirso_panel(const uint8_t *service, size_t service_len, const uint8_t *callback, size_t callback_len, uint8_t *block,
+                        size_t block_len);
+
+/* Judges a register as answer does (3, or 0) and tells the first block at fault: one whose check or own rule is broken, or whose service
+ * stands in an earlier block; block 0 where the length is wrong. The numbers go to `fault`, a list of exactly PYHTIRSO_FAULT; with another
+ * length the call writes nothing and gives false. */
+bool pyhtirso_check_register(const uint8_t *panels, size_t panels_len, uint64_t *fault, size_t fault_len);
 
 #ifdef __cplusplus
 }

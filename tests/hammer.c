@@ -9,7 +9,7 @@ enum { MOST = 128 * BLOCK, PANELS = 3, KEPT = 4096 };
 static uint8_t table[MOST], before[MOST], panels[16 * BLOCK], out_before[OUT], cookie_before[COOKIE];
 static size_t table_len = 9 * BLOCK, panels_len = PANELS * BLOCK;
 static uint64_t now = 1000, seed = 1;
-static long calls, answered, refused[10], accepted, told, faults;
+static long calls, answered, refused[10], issued, accepted, told, faults;
 static char target[2200], body[1200], cookie[200];
 
 /* Texts that answers showed, to be shown again. */
@@ -151,6 +151,18 @@ static void hear_visit(uint64_t n)
     told++;
 }
 
+/* The text of a ticket just issued, which a mark begins, and the service that it is for. */
+static void hear_ticket(const char *said, const char *mark, int skip, const char *stop, const char *names_service)
+{
+    const char *at = strstr(said, mark);
+    if (!at)
+        fault("a ticket issued that is not told");
+    else if (n_tickets < KEPT) {
+        service_of[n_tickets] = named(names_service);
+        keep(tickets, &n_tickets, KEPT, at + skip, stop);
+    }
+}
+
 static void learn(void)
 {
     static char said[OUT + 1];
@@ -160,13 +172,13 @@ static void learn(void)
     said[n] = 0;
     if ((at = strstr(said, "value=\"LT-")))
         keep(logins, &n_logins, 64, at + 7, "\"");
-    if (outcome[PYHTIRSO_KIND] == 2 && (at = strstr(said, "ticket=ST-")) && n_tickets < KEPT) {
-        service_of[n_tickets] = named(said);
-        keep(tickets, &n_tickets, KEPT, at + 7, "\n");
+    if (outcome[PYHTIRSO_KIND] == 2 && outcome[PYHTIRSO_DATA]) {
+        issued++;
+        hear_ticket(said, "ticket=ST-", 7, "\n", said);
     }
-    if ((at = strstr(said, "<cas:proxyTicket>PT-")) && n_tickets < KEPT) {
-        service_of[n_tickets] = named(target);
-        keep(tickets, &n_tickets, KEPT, at + 17, "<");
+    if (!strncmp(target, "/cas/proxy?", 11) && outcome[PYHTIRSO_DATA]) {
+        issued++;
+        hear_ticket(said, "<cas:proxyTicket>PT-", 17, "<", target);
     }
     if (outcome[PYHTIRSO_KIND] == 5) {
         keep(grants, &n_grants, 64, strstr(said, "pgtId=") + 6, "&");
@@ -179,9 +191,8 @@ static void learn(void)
     }
     if (!strncmp(target, "/cas/", 5) && strstr(target, "alidate?") && (at = strstr(target, "ticket="))) {
         static char ticket[80];
-        bool yes = outcome[PYHTIRSO_KIND] == 5 || (outcome[PYHTIRSO_KIND] == 3 && out[0] == 'y') || (outcome[PYHTIRSO_KIND] == 4 && strstr(said, "cas:user"));
         snprintf(ticket, sizeof ticket, "%.*s", (int)strcspn(at + 7, "&"), at + 7);
-        if (yes)
+        if (outcome[PYHTIRSO_KIND] == 5 || outcome[PYHTIRSO_DATA])
             succeeded(ticket);
     }
 }
@@ -340,7 +351,7 @@ int main(int argc, char **argv)
             call();
     }
     every_place();
-    printf("%ld calls, %ld answered, %ld tickets accepted, %ld visits told; refused", calls, answered, accepted, told);
+    printf("%ld calls, %ld answered, %ld tickets issued, %ld accepted, %ld visits told; refused", calls, answered, issued, accepted, told);
     for (int i = 1; i < 10; i++)
         printf(" %d:%ld", i, refused[i]);
     printf("\n%ld faults\n", faults);

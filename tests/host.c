@@ -1,5 +1,5 @@
-/* A host in plain C: it signs a user in, validates, replays the ticket, takes a grant, proxies, to the deepest chain too, has the visits told and
- * logs out, and checks each answer. */
+/* A host in plain C: it makes a register and has it checked, signs a user in, validates, replays the ticket, takes a grant, proxies, to the
+ * deepest chain too, has the visits told and logs out, and checks each answer. */
 #include "client.h"
 #include <time.h>
 
@@ -60,18 +60,67 @@ static bool told(const char *jar, uint32_t number, const char *service, const ch
     return !strcmp(said, text) && !memcmp(before, table, sizeof table);
 }
 
+/* A refusal number of panel, and whether the buffer is as it was. */
+static bool panel_refused(const char *service, const char *callback, size_t size, uint32_t number)
+{
+    uint8_t block[BLOCK], before[BLOCK];
+    memset(block, 7, BLOCK);
+    memcpy(before, block, BLOCK);
+    return pyhtirso_panel((const uint8_t *)service, strlen(service), (const uint8_t *)callback, strlen(callback), block, size) == number
+           && !memcmp(block, before, BLOCK);
+}
+
+static bool panel_made(const char *service, const char *callback)
+{
+    uint8_t block[BLOCK], by_hand[BLOCK];
+    memset(block, 7, BLOCK);
+    panel(by_hand, service, callback);
+    return !pyhtirso_panel((const uint8_t *)service, strlen(service), (const uint8_t *)callback, strlen(callback), block, BLOCK)
+           && !memcmp(block, by_hand, BLOCK);
+}
+
+/* Whether the check of a register gives these two numbers. */
+static bool judged(const uint8_t *blocks, size_t size, uint64_t refusal, uint64_t block)
+{
+    uint64_t fault[PYHTIRSO_FAULT];
+    return pyhtirso_check_register(blocks, size, fault, PYHTIRSO_FAULT) && fault[0] == refusal && fault[1] == block;
+}
+
+static void try_registers(void)
+{
+    uint8_t blocks[17 * BLOCK];
+    char service[32];
+    expect("register blocks as made by hand", panel_made(GATE, GATE_CALLBACK) && panel_made(LAMP, ""));
+    expect("a callback without https, a `#`, no service: refused",
+           panel_refused(GATE, "http://gate.lan/cb", BLOCK, 3) && panel_refused(GATE "#a", "", BLOCK, 3) && panel_refused("", "", BLOCK, 3));
+    expect("a buffer that is no block is refused, after the texts", panel_refused(GATE, "", BLOCK - 1, 4) && panel_refused("", "", BLOCK - 1, 3));
+    for (int i = 0; i < 17; i++) {
+        snprintf(service, sizeof service, "https://panel%d.lan/", i);
+        panel(blocks + i * BLOCK, service, "");
+    }
+    expect("a register of sixteen panels is sound", judged(blocks, 16 * BLOCK, 0, 0) && judged(blocks, BLOCK, 0, 0));
+    expect("a wrong length is told at block 0", judged(blocks, 17 * BLOCK, 3, 0) && judged(blocks, 0, 3, 0) && judged(blocks, BLOCK + 1, 3, 0));
+    blocks[9 * BLOCK + 300] ^= 1;
+    expect("a damaged block is told by its place", judged(blocks, 16 * BLOCK, 3, 9) && judged(blocks, 9 * BLOCK, 0, 0));
+    panel(blocks + 5 * BLOCK, "https://panel2.lan/", "");
+    expect("so is the second block of one service, which comes first", judged(blocks, 16 * BLOCK, 3, 5));
+    panel(blocks + 4 * BLOCK, "https://panel4.lan/", "http://panel4.lan/cb");
+    expect("so is a block that breaks a rule", judged(blocks, 16 * BLOCK, 3, 4));
+}
+
 int main(void)
 {
     char jar[JAR] = "", kept[JAR], body[1024], target[2048], ticket[80], first[80], burnt[80], low[80], high[80], pgt[80], iou[80];
-    uint64_t wrong[6];
+    uint64_t wrong[7];
     now = 1000;
+    try_registers();
     register_panels();
 
     expect("format a table", pyhtirso_format(table, sizeof table, now) == 0 && pyhtirso_check(table, sizeof table) == 0);
     expect("a table of eight blocks is refused", pyhtirso_format(table, 8 * BLOCK, now) == 1);
 
     call(jar, false, "/cas/login?service=https://gate.lan/p", "", false);
-    expect("the form", says(PAGE, 200, "<input name=\"service\" type=\"hidden\" value=\"https://gate.lan/p\">"));
+    expect("the form", !outcome[PYHTIRSO_DATA] && says(PAGE, 200, "<input name=\"service\" type=\"hidden\" value=\"https://gate.lan/p\">"));
     snprintf(body, sizeof body, "username=ann&password=secret&service=https%%3A%%2F%%2Fgate.lan%%2Fp&lt=%s", login_ticket());
 
     uint8_t username[64], password[128];
@@ -80,24 +129,26 @@ int main(void)
                                   && form[0] == 0 && form[1] == 3 && !memcmp(username, "ann", 3) && form[2] == 6 && !memcmp(password, "secret", 6));
 
     call(jar, true, "/cas/login", body, true);
-    expect("sign in", says(REDIRECT, 303, "https://gate.lan/p?ticket=ST-") && outcome[PYHTIRSO_COOKIE_LENGTH] > 0);
+    expect("sign in", says(REDIRECT, 303, "https://gate.lan/p?ticket=ST-") && outcome[PYHTIRSO_DATA] == 1 && outcome[PYHTIRSO_COOKIE_LENGTH] > 0);
     snprintf(first, sizeof first, "%s", between(said, "ticket=", ""));
     call(jar, true, "/cas/login", body, true);
     expect("the login ticket is spent", says(PAGE, 401, "<p>401</p>"));
 
     snprintf(target, sizeof target, "/cas/serviceValidate?service=https://gate.lan/p&pgtUrl=https://gate.lan/cb&ticket=%s", first);
     call(jar, false, target, "", false);
-    expect("validate: a callback", says(CALLBACK, 0, "https://gate.lan/cb?pgtId=PGT-") && outcome[PYHTIRSO_CALLBACK_SERIAL] != 0);
+    expect("validate: a callback",
+           says(CALLBACK, 0, "https://gate.lan/cb?pgtId=PGT-") && !outcome[PYHTIRSO_DATA] && outcome[PYHTIRSO_CALLBACK_SERIAL] != 0);
     snprintf(pgt, sizeof pgt, "%s", between(said, "pgtId=", "&"));
     snprintf(iou, sizeof iou, "%s", between(said, "pgtIou=", ""));
     finish((uint32_t)outcome[PYHTIRSO_CALLBACK_SERIAL], true);
-    expect("finish: success with user and IOU", says(XML, 200, "<cas:user>ann</cas:user>") && strstr(said, iou) != 0);
+    expect("finish: success with user and IOU",
+           says(XML, 200, "<cas:user>ann</cas:user>") && outcome[PYHTIRSO_DATA] == 1 && strstr(said, iou) != 0);
     call(jar, false, target, "", false);
-    expect("replay of the ticket", says(XML, 200, "code=\"INVALID_TICKET\""));
+    expect("replay of the ticket", says(XML, 200, "code=\"INVALID_TICKET\"") && !outcome[PYHTIRSO_DATA]);
 
     snprintf(target, sizeof target, "/cas/proxy?pgt=%s&targetService=https://lamp.lan/", pgt);
     call(jar, false, target, "", false);
-    expect("proxy", says(XML, 200, "<cas:proxyTicket>PT-"));
+    expect("proxy", says(XML, 200, "<cas:proxyTicket>PT-") && outcome[PYHTIRSO_DATA] == 1);
     snprintf(ticket, sizeof ticket, "%s", between(said, "<cas:proxyTicket>", "<"));
     snprintf(target, sizeof target, "/cas/proxyValidate?service=https://lamp.lan/&ticket=%s", ticket);
     call(jar, false, target, "", false);
@@ -133,17 +184,26 @@ int main(void)
     validate(jar, LAMP, low);
     expect("a visit's ticket is shown in vain, and the visit stays", says(XML, 200, "code=\"INVALID_TICKET\"") && told(jar, 1, LAMP, low));
 
+    take_ticket(jar, ticket);
+    snprintf(target, sizeof target, "/cas/validate?service=" LAMP "&ticket=%s", ticket);
+    call(jar, false, target, "", false);
+    expect("plain validate: yes", says(WORD, 200, "yes\n") && outcome[PYHTIRSO_DATA] == 1);
+    call(jar, false, target, "", false);
+    expect("and the second time no", says(WORD, 200, "no\n") && !outcome[PYHTIRSO_DATA]);
+
     memcpy(kept, jar, JAR);
     call(jar, false, "/cas/logout?url=https://lamp.lan/", "", false);
     expect("log out", says(PAGE, 200, "<a href=\"https://lamp.lan/\">Back</a>") && outcome[PYHTIRSO_COOKIE_CLEARED] == 1);
     expect("no visit is left", ask_visit(kept, 0) == 9 && !visits_held());
     call(kept, false, "/cas/login", "", false);
     expect("the session is gone", says(PAGE, 200, "<form"));
+    call(kept, false, "/cas/login?gateway=1&service=" GATE, "", false);
+    expect("gateway: back without a ticket", says(REDIRECT, 303, GATE) && !outcome[PYHTIRSO_DATA]);
 
     memset(wrong, 7, sizeof wrong);
     memcpy(said, table, BLOCK);
     expect("a list of another length is refused and nothing is written",
-           !pyhtirso_finish(table, sizeof table, 1, true, now, out, OUT, wrong, 6)
+           !pyhtirso_finish(table, sizeof table, 1, true, now, out, OUT, wrong, 7) && !pyhtirso_check_register(panels, sizeof panels, wrong, 1)
                && !pyhtirso_visit(table, sizeof table, cookie_out, 0, 0, now, random_bytes, RANDOM, out, OUT, wrong, 3)
                && wrong[0] == 0x0707070707070707u && !memcmp(said, table, BLOCK));
     printf("%d failed\n", failed);

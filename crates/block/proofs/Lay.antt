@@ -4,7 +4,7 @@ use mathlib.Core.List.{List, _++_, append-nil}
 use Prim.Native.Nat.{ℕ, _+_, _-_, _≤_}
 use native.Mathlib.Omega.{arith}
 use lib.ListN.{length, take, drop, length-append, drop-of-length-le}
-use lib.Seq.{drop-drop}
+use lib.Seq.{take-at, drop-drop}
 use Rattle.protocol.specs.Bytes.{spliced}
 use Rattle.block.proofs.Laws.{spliced-twice}
 
@@ -25,6 +25,13 @@ laid-next {s} {xs} {l} {l'} {m} {a} {n} p ys k h g e =
       len = let q = p .len in simp length-append (omega arith);
       size = p .size;
     }
+
+-- all 508 bytes of a block, in front of its check
+pub front : {s text l : List ℕ} → Laid s 512 0 508 text l → take 508 l ≡ text
+unfolding spliced
+front {s} {text} p =
+    let n : length text ≡ 508 = omega (arith, p .len) in
+    rw (p .eq) (take-at text (drop (0 + length text) s) 508 n)
 
 -- a part that was lent as `&mut t[a..e]`, and came back as b: what a caller's contract says with spliced
 pub lent : (t ys b : List ℕ) (a n e : ℕ) → e ≡ a + n → length b ≡ n → ys ≡ b → take a t ++ (ys ++ drop (e - a) (drop a t)) ≡ spliced t a b

@@ -1,7 +1,6 @@
 // What a call answered, as text: its numbers on a line, then its bytes, and a line feed after them.
 use super::words::front;
 use super::words::word;
-use protocol::Answer;
 use protocol::Form;
 use protocol::Outcome;
 use protocol::Visit;
@@ -13,17 +12,6 @@ pub fn newline() {
 fn show_bytes(bytes: &[u8]) {
     io::write_all(1, bytes);
     newline();
-}
-
-fn number_of(a: Answer) -> u32 {
-    match a {
-        Answer::Nothing => 0,
-        Answer::Page(_) => 1,
-        Answer::Redirect(_) => 2,
-        Answer::Text(_) => 3,
-        Answer::Xml(_) => 4,
-        Answer::Callback(_) => 5,
-    }
 }
 
 fn show_kind(number: u32) {
@@ -71,7 +59,7 @@ pub fn show_outcome(o: Outcome, out: &[u8], cookie: &[u8]) {
         return show_refusal(o.refusal);
     }
     let a = o.answer;
-    show_kind(number_of(a));
+    show_kind(reply::number_of(a));
     show_status(o.status);
     show_cookie(front(cookie, o.cookie_length));
     show_cleared(o.cookie_cleared);

@@ -6,25 +6,29 @@ use Prim.Native.Nat.{ℕ}
 use native.Mathlib.Omega.{arith}
 use borrow.Author.Tests.{eq-eqb, ne-eqb}
 use lib.ListN.{length, set}
-use Rattle.protocol.specs.Answers.{numberOf}
+use Rattle.protocol.specs.Bytes.{if}
+use Rattle.protocol.specs.Answers.{numberOf, dataOf}
 use Rattle.protocol.specs.Calls.{inputs, result, answerOf, finishOf, FormRead, formRead, formOf}
 use Rattle.protocol.specs.Visits.{visitRead, visitOf}
 use Rattle.protocol.specs.declared.Method.{Method}
 use Rattle.protocol.specs.declared.Outcome.{Outcome}
 use Rattle.protocol.specs.declared.Form.{Form}
+use Rattle.protocol.specs.Panels.{faultOf}
 use Rattle.protocol.specs.declared.Visit.{Visit}
-use Rattle.export.specs.Numbers.{flag, methodOf, outcomeNumbers, formNumbers, visitNumbers, handed, handedResult, answerHanded, finishHanded, handedVisit, visitHanded, handedForm, formHanded}
+use Rattle.protocol.specs.declared.Fault.{Fault}
+use Rattle.export.specs.Numbers.{methodOf, outcomeNumbers, formNumbers, visitNumbers, faultNumbers, handed, handedResult, answerHanded, finishHanded, handedVisit, visitHanded, handedForm, formHanded, handedFault, faultHanded}
 
-seven : (l : List ℕ) (a b c d e f g : ℕ) → length l ≡ 7 → set (set (set (set (set (set (set l 0 a) 1 b) 2 c) 3 d) 4 e) 5 f) 6 g ≡ a ∷ b ∷ c ∷ d ∷ e ∷ f ∷ g ∷ []
-seven [] a b c d e f g h = absurd (omega arith)
-seven (x₁ ∷ []) a b c d e f g h = absurd (omega arith)
-seven (x₁ ∷ x₂ ∷ []) a b c d e f g h = absurd (omega arith)
-seven (x₁ ∷ x₂ ∷ x₃ ∷ []) a b c d e f g h = absurd (omega arith)
-seven (x₁ ∷ x₂ ∷ x₃ ∷ x₄ ∷ []) a b c d e f g h = absurd (omega arith)
-seven (x₁ ∷ x₂ ∷ x₃ ∷ x₄ ∷ x₅ ∷ []) a b c d e f g h = absurd (omega arith)
-seven (x₁ ∷ x₂ ∷ x₃ ∷ x₄ ∷ x₅ ∷ x₆ ∷ []) a b c d e f g h = absurd (omega arith)
-seven (x₁ ∷ x₂ ∷ x₃ ∷ x₄ ∷ x₅ ∷ x₆ ∷ x₇ ∷ []) a b c d e f g h = refl
-seven (x₁ ∷ x₂ ∷ x₃ ∷ x₄ ∷ x₅ ∷ x₆ ∷ x₇ ∷ x₈ ∷ l) a b c d e f g h = absurd (omega arith)
+eight : (l : List ℕ) (a b c d e f g i : ℕ) → length l ≡ 8 → set (set (set (set (set (set (set (set l 0 a) 1 b) 2 c) 3 d) 4 e) 5 f) 6 g) 7 i ≡ a ∷ b ∷ c ∷ d ∷ e ∷ f ∷ g ∷ i ∷ []
+eight [] a b c d e f g i h = absurd (omega arith)
+eight (x₁ ∷ []) a b c d e f g i h = absurd (omega arith)
+eight (x₁ ∷ x₂ ∷ []) a b c d e f g i h = absurd (omega arith)
+eight (x₁ ∷ x₂ ∷ x₃ ∷ []) a b c d e f g i h = absurd (omega arith)
+eight (x₁ ∷ x₂ ∷ x₃ ∷ x₄ ∷ []) a b c d e f g i h = absurd (omega arith)
+eight (x₁ ∷ x₂ ∷ x₃ ∷ x₄ ∷ x₅ ∷ []) a b c d e f g i h = absurd (omega arith)
+eight (x₁ ∷ x₂ ∷ x₃ ∷ x₄ ∷ x₅ ∷ x₆ ∷ []) a b c d e f g i h = absurd (omega arith)
+eight (x₁ ∷ x₂ ∷ x₃ ∷ x₄ ∷ x₅ ∷ x₆ ∷ x₇ ∷ []) a b c d e f g i h = absurd (omega arith)
+eight (x₁ ∷ x₂ ∷ x₃ ∷ x₄ ∷ x₅ ∷ x₆ ∷ x₇ ∷ x₈ ∷ []) a b c d e f g i h = refl
+eight (x₁ ∷ x₂ ∷ x₃ ∷ x₄ ∷ x₅ ∷ x₆ ∷ x₇ ∷ x₈ ∷ x₉ ∷ l) a b c d e f g i h = absurd (omega arith)
 
 three : (l : List ℕ) (a b c : ℕ) → length l ≡ 3 → set (set (set l 0 a) 1 b) 2 c ≡ a ∷ b ∷ c ∷ []
 three [] a b c h = absurd (omega arith)
@@ -39,10 +43,10 @@ two (x₁ ∷ []) a b h = absurd (omega arith)
 two (x₁ ∷ x₂ ∷ []) a b h = refl
 two (x₁ ∷ x₂ ∷ x₃ ∷ l) a b h = absurd (omega arith)
 
-pub outcome-put : (l : List ℕ) (o : Outcome) {k f : ℕ} → length l ≡ 7 → k ≡ numberOf (o .answer) → f ≡ flag (o .«cookie_cleared»)
-    → set (set (set (set (set (set (set l 0 (o .refusal)) 1 k) 2 (o .status)) 3 (o .length)) 4 (o .«cookie_length»)) 5 f) 6 (o .«callback_serial») ≡ outcomeNumbers o
+pub outcome-put : (l : List ℕ) (o : Outcome) {k f d : ℕ} → length l ≡ 8 → k ≡ numberOf (o .answer) → f ≡ if (o .«cookie_cleared») 1 0 → d ≡ dataOf (o .answer)
+    → set (set (set (set (set (set (set (set l 0 (o .refusal)) 1 k) 2 (o .status)) 3 (o .length)) 4 (o .«cookie_length»)) 5 f) 6 (o .«callback_serial»)) 7 d ≡ outcomeNumbers o
 unfolding outcomeNumbers
-outcome-put l o {k} {f} h p q = seven l (o .refusal) k (o .status) (o .length) (o .«cookie_length») f (o .«callback_serial») h ∙ rw (p, q)
+outcome-put l o {k} {f} {d} h p q r = eight l (o .refusal) k (o .status) (o .length) (o .«cookie_length») f (o .«callback_serial») d h ∙ rw (p, q, r)
 
 pub form-put : (l : List ℕ) (f : Form) → length l ≡ 3 → set (set (set l 0 (f .refusal)) 1 (f .«username_length»)) 2 (f .«password_length») ≡ formNumbers f
 unfolding formNumbers
@@ -52,28 +56,32 @@ pub visit-put : (l : List ℕ) (v : Visit) → length l ≡ 2 → set (set l 0 (
 unfolding visitNumbers
 visit-put l v h = two l (v .refusal) (v .length) h
 
-module _ (l t g : List ℕ) (post : Bool) (u b k : List ℕ) (n : ℕ) (x : List ℕ) (v : Bool) (o c : List ℕ) where
-  pub answer-none : (length l ≡ 7 → ⊥) → handed false l t o c ≡ answerHanded l (inputs t g (methodOf post) u b k n x v o c)
-  unfolding answerHanded
-  answer-none h = rw (ne-eqb (length l) 7 h)
+pub fault-put : (l : List ℕ) (f : Fault) → length l ≡ 2 → set (set l 0 (f .refusal)) 1 (f .block) ≡ faultNumbers f
+unfolding faultNumbers
+fault-put l f h = two l (f .refusal) (f .block) h
 
-  pub answer-some : {l′ t′ o′ c′ : List ℕ} {r : Outcome} {m : Method} → length l ≡ 7 → m ≡ methodOf post → result r t′ o′ c′ ≡ answerOf (inputs t g m u b k n x v o c) → l′ ≡ outcomeNumbers r
+module _ (l t g : List ℕ) (post : Bool) (u b k : List ℕ) (n : ℕ) (x : List ℕ) (v : Bool) (o c : List ℕ) where
+  pub answer-none : (length l ≡ 8 → ⊥) → handed false l t o c ≡ answerHanded l (inputs t g (methodOf post) u b k n x v o c)
+  unfolding answerHanded
+  answer-none h = rw (ne-eqb (length l) 8 h)
+
+  pub answer-some : {l′ t′ o′ c′ : List ℕ} {r : Outcome} {m : Method} → length l ≡ 8 → m ≡ methodOf post → result r t′ o′ c′ ≡ answerOf (inputs t g m u b k n x v o c) → l′ ≡ outcomeNumbers r
       → handed true l′ t′ o′ c′ ≡ answerHanded l (inputs t g (methodOf post) u b k n x v o c)
   unfolding answerHanded
   answer-some {l′} {t′} {o′} {c′} {r} {m} h q e w =
       let f : handed true (outcomeNumbers r) t′ o′ c′ ≡ handedResult (answerOf (inputs t g m u b k n x v o c)) = ap handedResult e in
-      rw (eq-eqb (length l) 7 h, w, sym q) f
+      rw (eq-eqb (length l) 8 h, w, sym q) f
 
 module _ (l table : List ℕ) (serial : ℕ) (ok : Bool) (time : ℕ) (out : List ℕ) where
-  pub finish-none : (length l ≡ 7 → ⊥) → handed false l table out [] ≡ finishHanded l table serial ok time out
+  pub finish-none : (length l ≡ 8 → ⊥) → handed false l table out [] ≡ finishHanded l table serial ok time out
   unfolding finishHanded
-  finish-none h = rw (ne-eqb (length l) 7 h)
+  finish-none h = rw (ne-eqb (length l) 8 h)
 
-  pub finish-some : {l′ t o : List ℕ} {r : Outcome} → length l ≡ 7 → result r t o [] ≡ finishOf table serial ok time out → l′ ≡ outcomeNumbers r → handed true l′ t o [] ≡ finishHanded l table serial ok time out
+  pub finish-some : {l′ t o : List ℕ} {r : Outcome} → length l ≡ 8 → result r t o [] ≡ finishOf table serial ok time out → l′ ≡ outcomeNumbers r → handed true l′ t o [] ≡ finishHanded l table serial ok time out
   unfolding finishHanded
   finish-some {l′} {t} {o} {r} h e m =
       let f : handed true (outcomeNumbers r) t o [] ≡ handedResult (finishOf table serial ok time out) = ap handedResult e in
-      rw (eq-eqb (length l) 7 h, m) f
+      rw (eq-eqb (length l) 8 h, m) f
 
 module _ (l table cookie : List ℕ) (number time : ℕ) (random out : List ℕ) where
   pub visit-none : (length l ≡ 2 → ⊥) → handed false l table out [] ≡ visitHanded l table cookie number time random out
@@ -98,3 +106,12 @@ module _ (l body username password : List ℕ) where
       let g : handedForm true (formNumbers f) u p ≡ handedForm true (formNumbers (formOf body username password .form)) (formOf body username password .username) (formOf body username password .password) =
       ap (λ (x : FormRead). handedForm true (formNumbers (x .form)) (x .username) (x .password)) e in
       rw (eq-eqb (length l) 3 h, m) g
+
+module _ (l register : List ℕ) where
+  pub fault-none : (length l ≡ 2 → ⊥) → handedFault false l ≡ faultHanded l register
+  unfolding faultHanded
+  fault-none h = rw (ne-eqb (length l) 2 h)
+
+  pub fault-some : {l′ : List ℕ} {f : Fault} → length l ≡ 2 → f ≡ faultOf register → l′ ≡ faultNumbers f → handedFault true l′ ≡ faultHanded l register
+  unfolding faultHanded
+  fault-some h e m = rw (eq-eqb (length l) 2 h, m, e)

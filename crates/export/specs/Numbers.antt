@@ -5,24 +5,22 @@ use Prim.Native.Nat.{ℕ}
 use lib.Dec.{eqb}
 use lib.ListN.{length}
 use Rattle.protocol.specs.Bytes.{if}
-use Rattle.protocol.specs.Answers.{numberOf}
+use Rattle.protocol.specs.Answers.{numberOf, dataOf}
 use Rattle.protocol.specs.Calls.{Inputs, Result, answerOf, finishOf, formOf}
 use Rattle.protocol.specs.Visits.{VisitRead, visitOf}
 use Rattle.protocol.specs.declared.Method.{Method}
 use Rattle.protocol.specs.declared.Method.the-variants as method
 use Rattle.protocol.specs.declared.Outcome.{Outcome}
 use Rattle.protocol.specs.declared.Form.{Form}
+use Rattle.protocol.specs.Panels.{faultOf}
 use Rattle.protocol.specs.declared.Visit.{Visit}
-
-abbrev pub flag : Bool → ℕ
-flag true = 1
-flag false = 0
+use Rattle.protocol.specs.declared.Fault.{Fault}
 
 abbrev pub methodOf : Bool → Method
 methodOf true = method.Post
 methodOf false = method.Get
 
--- refusal, kind, status, length, cookie length, cookie cleared, callback serial
+-- refusal, kind, status, length, cookie length, cookie cleared, callback serial, the answer's data
 unfoldable pub outcomeNumbers : Outcome → List ℕ
 outcomeNumbers o =
     o .refusal
@@ -30,8 +28,9 @@ outcomeNumbers o =
     ∷ o .status
     ∷ o .length
     ∷ o .«cookie_length»
-    ∷ flag (o .«cookie_cleared»)
+    ∷ if (o .«cookie_cleared») 1 0
     ∷ o .«callback_serial»
+    ∷ dataOf (o .answer)
     ∷ []
 
 -- refusal, length of the username, length of the password
@@ -41,6 +40,10 @@ formNumbers f = f .refusal ∷ f .«username_length» ∷ f .«password_length»
 -- refusal, length of what is told
 unfoldable pub visitNumbers : Visit → List ℕ
 visitNumbers v = v .refusal ∷ v .length ∷ []
+
+-- refusal, the first block at fault
+unfoldable pub faultNumbers : Fault → List ℕ
+faultNumbers f = f .refusal ∷ f .block ∷ []
 
 -- what comes back: whether the list had the right length, the list, and the bytes
 pub record Handed : Type 0 where
@@ -58,10 +61,10 @@ handedResult r = handed true (outcomeNumbers (r .outcome)) (r .table) (r .out) (
 
 -- a list of another length: false, and nothing is written
 unfoldable pub answerHanded : List ℕ → Inputs → Handed
-answerHanded l i = if (eqb (length l) 7) (handedResult (answerOf i)) (handed false l (i .table) (i .out) (i .cookieOut))
+answerHanded l i = if (eqb (length l) 8) (handedResult (answerOf i)) (handed false l (i .table) (i .out) (i .cookieOut))
 
 unfoldable pub finishHanded : List ℕ → List ℕ → ℕ → Bool → ℕ → List ℕ → Handed
-finishHanded l table serial ok time out = if (eqb (length l) 7) (handedResult (finishOf table serial ok time out)) (handed false l table out [])
+finishHanded l table serial ok time out = if (eqb (length l) 8) (handedResult (finishOf table serial ok time out)) (handed false l table out [])
 
 abbrev pub handedVisit : VisitRead → Handed
 handedVisit r = handed true (visitNumbers (r .visit)) (r .table) (r .out) []
@@ -84,3 +87,13 @@ formHanded l body username password =
     if (eqb (length l) 3)
     (handedForm true (formNumbers (formOf body username password .form)) (formOf body username password .username) (formOf body username password .password))
     (handedForm false l username password)
+
+pub record HandedFault : Type 0 where
+  pub taken : Bool
+  pub list : List ℕ
+
+abbrev pub handedFault : Bool → List ℕ → HandedFault
+handedFault b l = record { taken = b; list = l }
+
+unfoldable pub faultHanded : List ℕ → List ℕ → HandedFault
+faultHanded l register = if (eqb (length l) 2) (handedFault true (faultNumbers (faultOf register))) (handedFault false l)

@@ -1,6 +1,6 @@
-// The six calls for a host that links the library: numbers as themselves, a slice as pointer and length, and a result as a lent list of
+// The eight calls for a host that links the library: numbers as themselves, a slice as pointer and length, and a result as a lent list of
 // numbers. A list of another length than the result has is refused: false, and nothing is written.
-use protocol::Answer;
+use protocol::Fault;
 use protocol::Form;
 use protocol::Method;
 use protocol::Outcome;
@@ -8,28 +8,9 @@ use protocol::Visit;
 ghost use mathlib.Core.Path.{_≡_};
 ghost use mathlib.Core.List.{[]};
 ghost use lib.ListN.{length};
-ghost use Rattle.protocol.specs.Answers.{numberOf};
 ghost use Rattle.protocol.specs.Calls.{inputs, numbered, formatOf, checkOf};
-ghost use Rattle.export.specs.Numbers.{flag, methodOf, outcomeNumbers, formNumbers, visitNumbers, handed, answerHanded, finishHanded, visitHanded, formHanded, handedForm};
-
-fn number_of(a: Answer) -> u64
-    ensures { λ r. ⌜ r ≡ numberOf a ⌝ }
-{
-    match a {
-        Answer::Nothing => 0,
-        Answer::Page(_) => 1,
-        Answer::Redirect(_) => 2,
-        Answer::Text(_) => 3,
-        Answer::Xml(_) => 4,
-        Answer::Callback(_) => 5,
-    }
-}
-
-fn flag_of(b: bool) -> u64
-    ensures { λ r. ⌜ r ≡ flag b ⌝ }
-{
-    if b { 1 } else { 0 }
-}
+ghost use Rattle.protocol.specs.Panels.{made, panelOf};
+ghost use Rattle.export.specs.Numbers.{methodOf, outcomeNumbers, formNumbers, visitNumbers, faultNumbers, handed, answerHanded, finishHanded, visitHanded, formHanded, handedForm, faultHanded, handedFault};
 
 fn method_of(post: bool) -> Method
     ensures { λ r. ⌜ r ≡ methodOf post ⌝ }
@@ -37,21 +18,23 @@ fn method_of(post: bool) -> Method
     if post { Method::Post } else { Method::Get }
 }
 
-// The seven numbers of an outcome.
+// The eight numbers of an outcome.
 fn put_outcome(o: Outcome, list: &mut [u64])
-    requires { ⌜ length (now list) ≡ 7 ⌝ }
+    requires { ⌜ length (now list) ≡ 8 ⌝ }
     ensures { λ _. ⌜ now (list .exit) ≡ outcomeNumbers o ⌝ }
 {
     let a = o.answer;
-    let kind = number_of(a);
-    let cleared = flag_of(o.cookie_cleared);
+    let kind = reply::number_of(a);
+    let data = reply::data_of(a);
+    let cleared = reply::flag_of(o.cookie_cleared);
     list[0] = o.refusal as u64;
-    list[1] = kind;
+    list[1] = kind as u64;
     list[2] = o.status as u64;
     list[3] = o.length as u64;
     list[4] = o.cookie_length as u64;
-    list[5] = cleared;
+    list[5] = cleared as u64;
     list[6] = o.callback_serial as u64;
+    list[7] = data as u64;
 }
 
 // The three of a form.
@@ -71,6 +54,15 @@ fn put_visit(v: Visit, list: &mut [u64])
 {
     list[0] = v.refusal as u64;
     list[1] = v.length as u64;
+}
+
+// The two of a register's check.
+fn put_fault(f: Fault, list: &mut [u64])
+    requires { ⌜ length (now list) ≡ 2 ⌝ }
+    ensures { λ _. ⌜ now (list .exit) ≡ faultNumbers f ⌝ }
+{
+    list[0] = f.refusal as u64;
+    list[1] = f.block as u64;
 }
 
 #[no_mangle]
@@ -121,7 +113,7 @@ pub extern "C" fn pyhtirso_answer(
 ) -> bool
     ensures { λ r. ⌜ handed r (now (outcome .exit)) (now (table .exit)) (now (out .exit)) (now («cookie_out» .exit)) ≡ answerHanded (now (outcome .entry)) (inputs (now (table .entry)) (now (register .entry)) (methodOf post) (now (target .entry)) (now (body .entry)) (now (cookie .entry)) time (now (random .entry)) verdict (now (out .entry)) (now («cookie_out» .entry))) ⌝ }
 {
-    if outcome.len() != 7 {
+    if outcome.len() != 8 {
         return false;
     }
     let method = method_of(post);
@@ -153,7 +145,7 @@ pub extern "C" fn pyhtirso_finish(
 ) -> bool
     ensures { λ r. ⌜ handed r (now (outcome .exit)) (now (table .exit)) (now (out .exit)) [] ≡ finishHanded (now (outcome .entry)) (now (table .entry)) serial ok time (now (out .entry)) ⌝ }
 {
-    if outcome.len() != 7 {
+    if outcome.len() != 8 {
         return false;
     }
     let o = signon::finish(table, serial, ok, time, out);
@@ -178,5 +170,24 @@ pub extern "C" fn pyhtirso_visit(
     }
     let v = signon::visit(table, cookie, number, time, random, out);
     put_visit(v, visit);
+    true
+}
+
+#[no_mangle]
+pub extern "C" fn pyhtirso_panel(service: &[u8], callback: &[u8], block: &mut [u8]) -> u32
+    ensures { λ r. ⌜ made r (now (block .exit)) ≡ panelOf (now (service .entry)) (now (callback .entry)) (now (block .entry)) ⌝ }
+{
+    signon::panel(service, callback, block)
+}
+
+#[no_mangle]
+pub extern "C" fn pyhtirso_check_register(register: &[u8], fault: &mut [u64]) -> bool
+    ensures { λ r. ⌜ handedFault r (now (fault .exit)) ≡ faultHanded (now (fault .entry)) (now (register .entry)) ⌝ }
+{
+    if fault.len() != 2 {
+        return false;
+    }
+    let f = signon::check_register(register);
+    put_fault(f, fault);
     true
 }

@@ -210,7 +210,13 @@ format-lasts table time e =
     let q = both (leb 9 (length table / 512)) (leb (length table / 512) 128) (p .1) in
     rw e (sound-lawful (formatted (length table / 512 - 1) time) (formatted-sound (length table / 512 - 1) time (omega (arith, leb-true (length table / 512) 128 (q .1))) (leb-true time lastTime (p6 .0))))
 
--- check gives 0 exactly for such tables
+-- check gives 0 exactly for such tables: for them, and for no others
 pub check-zero : (table : List ℕ) → tableShape (length table) ≡ true → tableLawful table ≡ true → checkOf table ≡ 0
 unfolding checkOf
 check-zero table h e = rw (h, e)
+
+pub check-passed : (table : List ℕ) → checkOf table ≡ 0 → (tableShape (length table) ≡ true) × (tableLawful table ≡ true)
+unfolding checkOf
+check-passed table e =
+    let p1 = passes (tableShape (length table)) 1 _ (omega arith) e in
+    (p1 .0, passes (tableLawful table) 2 0 (omega arith) (p1 .1) .0)

@@ -12,6 +12,7 @@ pub mod Answers
 pub mod Steps
 pub mod Calls
 pub mod Visits
+pub mod Panels
 pub mod Written
 pub mod Held
 pub mod Worked

@@ -1,5 +1,5 @@
-// The types of the interface: what a request is, what a call answers, and what reading a form or asking for a
-// visit gives. And dates, of which meaning and code speak alike.
+// The types of the interface: what a request is, what a call answers, and what reading a form, asking for a visit
+// or checking a register gives. And dates, of which meaning and code speak alike.
 
 pub enum Method {
     Get,
@@ -56,6 +56,12 @@ pub struct Form {
 pub struct Visit {
     pub refusal: u32,
     pub length: usize,
+}
+
+// The result of a register's check: the first block at fault, from 0; 0 where none is.
+pub struct Fault {
+    pub refusal: u32,
+    pub block: usize,
 }
 
 // A day by its place in the year, from 0.

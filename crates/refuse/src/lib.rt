@@ -20,6 +20,19 @@ fn request_fits(target: usize, body: usize) -> bool
     (target <= 2048) & (body <= 1024)
 }
 
+// Check: 1, 2, which begin the list of every call that reads a table.
+pub fn of_check(table: &[u8]) -> u32
+    ensures { λ r. ⌜ r ≡ checkOf (now (table .entry)) ⌝ }
+{
+    if judge::shape_right(table.len()) {
+        if judge::table_lawful(table) {
+            return 0;
+        }
+        return 2;
+    }
+    1
+}
+
 // Numbers 4 to 6.
 fn after_bytes(
     target: usize,
@@ -56,16 +69,14 @@ pub fn of_answer(
 ) -> u32
     ensures { λ r. ⌜ r ≡ answerRefusal (now (table .entry)) (now (register .entry)) target body time random out cookie ⌝ }
 {
-    if judge::shape_right(table.len()) {
-        if judge::table_lawful(table) {
-            if register::register_lawful(register) {
-                return after_bytes(target, body, time, random, out, cookie);
-            }
-            return 3;
-        }
-        return 2;
+    let number = of_check(table);
+    if number != 0 {
+        return number;
     }
-    1
+    if register::register_lawful(register) {
+        return after_bytes(target, body, time, random, out, cookie);
+    }
+    3
 }
 
 // Numbers 4, by a test of the sizes, and 6.
@@ -85,26 +96,22 @@ fn after_table(time: u64, fits: bool) -> u32
 pub fn of_finish(table: &[u8], time: u64, out: usize) -> u32
     ensures { λ r. ⌜ r ≡ finishRefusal (now (table .entry)) time out ⌝ }
 {
-    if judge::shape_right(table.len()) {
-        if judge::table_lawful(table) {
-            return after_table(time, 8192 <= out);
-        }
-        return 2;
+    let number = of_check(table);
+    if number != 0 {
+        return number;
     }
-    1
+    after_table(time, 8192 <= out)
 }
 
 // A visit: 1, 2, 4 for the output and the random input, 6. That there is none of its number is told later.
 pub fn of_visit(table: &[u8], time: u64, random: usize, out: usize) -> u32
     ensures { λ r. ⌜ r ≡ visitUnless (now (table .entry)) time random out 0 ⌝ }
 {
-    if judge::shape_right(table.len()) {
-        if judge::table_lawful(table) {
-            return after_table(time, (8192 <= out) & (random == 48));
-        }
-        return 2;
+    let number = of_check(table);
+    if number != 0 {
+        return number;
     }
-    1
+    after_table(time, (8192 <= out) & (random == 48))
 }
 
 // Format: 1, 6.
@@ -116,19 +123,6 @@ pub fn of_format(size: usize, time: u64) -> u32
             return 0;
         }
         return 6;
-    }
-    1
-}
-
-// Check: 1, 2.
-pub fn of_check(table: &[u8]) -> u32
-    ensures { λ r. ⌜ r ≡ checkOf (now (table .entry)) ⌝ }
-{
-    if judge::shape_right(table.len()) {
-        if judge::table_lawful(table) {
-            return 0;
-        }
-        return 2;
     }
     1
 }

@@ -1,21 +1,23 @@
--- A register read block by block: what each turn of a loop leaves to do, and where the texts of a block stand. Assumes nothing.
+-- A register read block by block: what each turn of a loop leaves to do, and what its answer says. Assumes nothing.
 use mathlib.Core.Path.{_≡_, refl, sym, ap, _∙_}
 use mathlib.Core.Bool.{Bool, true, false, _&&_, not}
-use mathlib.Core.List.{List, [], _∷_, map}
+use mathlib.Core.List.{List, [], _∷_}
 use Prim.Native.Nat.{ℕ, zero, suc, _+_, _-_, _*_, _/_, _≤_, _<_}
-use native.Mathlib.Nat.{sub-zero}
+use native.Mathlib.Nat.{sub-zero, zero-add}
 use native.Mathlib.Omega.{arith}
-use borrow.Author.Tests.{eq-eqb, ne-eqb, leb-true}
-use lib.Dec.{eqb, leb, lit≤}
-use lib.ListN.{length, take, drop, getD, length-take, drop-of-length-le}
+use borrow.Author.Tests.{eq-eqb, ne-eqb, lt-ltb, ltb-true}
+use lib.Dec.{eqb, leb, ltb}
+use lib.ListN.{length, take, drop, getD, length-take, length-drop, drop-of-length-le}
 use lib.Seq.{drop-drop, take-all, length-take-le}
-use Rattle.protocol.specs.Bytes.{if, ascii, same, among, allDiffer, within, allWithin, holds, part, num, leOf, blocks}
+use Rattle.protocol.specs.Bytes.{if, ascii, same, within, allWithin, holds, part, blocks}
 use Rattle.protocol.specs.Blocks.{checkRight}
-use Rattle.protocol.specs.Register.{Entry, decodeEntry, decodeRegister, addressRight, servicesOf, registered, callbackOf}
-use Rattle.protocol.proofs.Laws.{both, drop-step}
+use Rattle.protocol.specs.Register.{Entry, entryRight, decodeEntry, decodeRegister, addressRight, registerShape, registerLawful, registered, callbackOf}
+use Rattle.protocol.specs.Panels.{entry, panelRight, serviceIn, atFault, faultFrom, fault, faultOf}
+use Rattle.protocol.specs.declared.Fault.{Fault}
+use Rattle.protocol.proofs.Laws.{drop-step, one-test}
+use Rattle.protocol.proofs.Faults.{behind, said, faults-none, faults-some, fault-refusal}
 use Rattle.text.proofs.Laws.{lengths-differ}
-use Rattle.block.proofs.Parts.{part-part}
-use Rattle.register.specs.Blockwise.{Sizes, secure, textsRight, blockRight, blocksRight, entries}
+use Rattle.register.specs.Blockwise.{secure, restRight, placeOf}
 
 -- `has_byte`
 module _ (b : ℕ) (s : List ℕ) (i : ℕ) (inv : holds b (drop i s) ≡ holds b s) where
@@ -51,196 +53,206 @@ unfolding secure
 secure-long [] r h e = absurd (omega arith)
 secure-long (x ∷ s) r h e = e
 
--- `texts_right`: the parts as the code has them
+-- `entry_right`
+pub entry-as : (s c : List ℕ) (a k g : Bool) → a ≡ addressRight s → k ≡ addressRight c → g ≡ secure c
+    → within 1 200 (length s) && leb (length c) 200 && a && k && g ≡ entryRight (entry s c)
+unfolding entryRight secure
+entry-as s c a k g ea ek eg = rw (ea, ek, eg)
+
+-- `text_of`: up to its length, or to the end of the block
+module _ (b : List ℕ) (at n k : ℕ) (long : length b ≡ 512) (e : n ≡ k) where
+  pub text-inside : part at (at + n - at) b ≡ part at k b
+  text-inside = let w : at + n - at ≡ n = omega arith in rw (w, e)
+
+  pub text-cut : 512 ≤ at + n → part at (length b - at) b ≡ part at k b
+  text-cut h = take-all (length b - at) (drop at b) (omega (arith, length-drop at b)) ∙ sym (take-all k (drop at b) (omega (arith, length-drop at b)))
+
+-- `service_at`
+pub service-there : (b v : List ℕ) (k : ℕ) → v ≡ decodeEntry (part (512 * k) (512 * k + 512 - 512 * k) b) .service → v ≡ serviceIn b k
+unfolding serviceIn
+service-there b v k e = let w : 512 * k + 512 - 512 * k ≡ 512 = omega arith in e ∙ ap (λ (i : ℕ). decodeEntry (part (512 * k) i b) .service) w
+
+-- `rest_right`: the parts as the code has them
 module _ (b : List ℕ) (n m : ℕ) (long : length b ≡ 512) (short : n ≤ 200) (brief : m ≤ 200) where
-  pub texts-as : (c s z k y g : Bool) → c ≡ checkRight (part (512 * 0) 512 b) → s ≡ addressRight (part 4 (4 + n - 4) b) → z ≡ allWithin 0 0 (part (4 + n) (204 - (4 + n)) b)
-      → k ≡ addressRight (part 204 (204 + m - 204) b) → y ≡ allWithin 0 0 (part (204 + m) (508 - (204 + m)) b) → g ≡ secure (part 204 (204 + m - 204) b)
-      → c && s && z && k && y && g ≡ textsRight n m b
-  unfolding textsRight
-  texts-as c s z k y g ec es ez ek ey eg =
+  pub rest-as : (c z y : Bool) → c ≡ checkRight (part (512 * 0) 512 b) → z ≡ allWithin 0 0 (part (4 + n) (204 - (4 + n)) b) → y ≡ allWithin 0 0 (part (204 + m) (508 - (204 + m)) b)
+      → c && z && y ≡ restRight n m b
+  unfolding restRight
+  rest-as c z y ec ez ey =
       let whole : part (512 * 0) 512 b ≡ b = take-all 512 b (omega arith) in
-      let a : 4 + n - 4 ≡ n = omega arith in
-      let d : 204 + m - 204 ≡ m = omega arith in
       let p : 204 - (4 + n) ≡ 200 - n = omega arith in
       let q : 508 - (204 + m) ≡ 304 - m = omega arith in
-      rw (ec, es, ez, ek, ey, eg, whole, a, d, p, q)
+      rw (ec, ez, ey, whole, p, q)
 
--- `block_right`
-module _ (b : List ℕ) (n m : ℕ) (en : n ≡ num 0 2 b) (em : m ≡ num 2 2 b) where
-  pub block-yes : (r : Bool) → within 1 200 n && leb m 200 ≡ true → r ≡ textsRight n m b → r ≡ blockRight b
-  unfolding blockRight
-  block-yes r t e = e ∙ rw (← en, ← em, t)
+-- `place_of`: the entries from block k on
+abbrev left : ℕ → ℕ → List ℕ → List Entry
+left m k b = said (m - k) (drop (512 * k) b)
 
-  pub block-no : within 1 200 n && leb m 200 ≡ false → false ≡ blockRight b
-  unfolding blockRight
-  block-no t = rw (← en, ← em, t)
+left-step : (m k : ℕ) (b : List ℕ) → k < m → left m k b ≡ decodeEntry (part (512 * k) 512 b) ∷ left m (k + 1) b
+unfolding blocks
+left-step m k b h =
+    let n : m - k ≡ suc (m - (k + 1)) = omega arith in
+    let q : 512 * k + 512 ≡ 512 * (k + 1) = omega arith in
+    ap (λ (i : ℕ). said i (drop (512 * k) b)) n
+    ∙ ap (λ (s : List ℕ). decodeEntry (part (512 * k) 512 b) ∷ said (m - (k + 1)) s) (drop-drop 512 (512 * k) b ∙ ap (λ (i : ℕ). drop i b) q)
 
-pub limit-service : (n m : ℕ) → within 1 200 n && leb m 200 ≡ true → n ≤ 200
-limit-service n m t = leb-true n 200 (both (leb 1 n) (leb n 200) (both (within 1 200 n) (leb m 200) t .0) .1)
+left-none : (m k : ℕ) (b : List ℕ) → m ≤ k → left m k b ≡ []
+unfolding blocks
+left-none m k b h = let e : m - k ≡ 0 = omega arith in rw e
 
-pub limit-callback : (n m : ℕ) → within 1 200 n && leb m 200 ≡ true → m ≤ 200
-limit-callback n m t = leb-true m 200 (both (within 1 200 n) (leb m 200) t .1)
+-- the place is k blocks on from that among those that are left
+pub record Looking (s b : List ℕ) (m k : ℕ) : Type 0 where
+  pub count : m ≡ length b / 512
+  pub high : k ≤ m
+  pub place : k + placeOf s (left m k b) ≡ placeOf s (decodeRegister b)
 
--- blocks one after the other
-next-block : (b : List ℕ) (k : ℕ) → drop 512 (drop (512 * k) b) ≡ drop (512 * (k + 1)) b
-next-block b k = let e : 512 * k + 512 ≡ 512 * (k + 1) = omega arith in drop-drop 512 (512 * k) b ∙ ap (λ (n : ℕ). drop n b) e
-
-left-one : (m k : ℕ) → k < m → m - k ≡ suc (m - (k + 1))
-left-one m k h = omega arith
-
-module _ (b : List ℕ) (m k : ℕ) (h : k < m) where
-  pub blocks-step : blocksRight (m - k) (drop (512 * k) b) ≡ blockRight (part (512 * k) 512 b) && blocksRight (m - (k + 1)) (drop (512 * (k + 1)) b)
-  unfolding blocksRight
-  blocks-step =
-      ap (λ (n : ℕ). blocksRight n (drop (512 * k) b)) (left-one m k h)
-      ∙ ap (λ (l : List ℕ). blockRight (part (512 * k) 512 b) && blocksRight (m - (k + 1)) l) (next-block b k)
-
-  pub entries-step : entries (m - k) (drop (512 * k) b) ≡ decodeEntry (part (512 * k) 512 b) ∷ entries (m - (k + 1)) (drop (512 * (k + 1)) b)
-  unfolding entries
-  entries-step =
-      ap (λ (n : ℕ). entries n (drop (512 * k) b)) (left-one m k h)
-      ∙ ap (λ (l : List ℕ). decodeEntry (part (512 * k) 512 b) ∷ entries (m - (k + 1)) l) (next-block b k)
-
-pub blocks-none : (m k : ℕ) (b : List ℕ) → m ≤ k → blocksRight (m - k) b ≡ true
-unfolding blocksRight
-blocks-none m k b h = let e : m - k ≡ 0 = omega arith in rw e
-
-pub entries-none : (m k : ℕ) (b : List ℕ) → m ≤ k → entries (m - k) b ≡ []
-unfolding entries
-entries-none m k b h = let e : m - k ≡ 0 = omega arith in rw e
-
--- from the first block on
-module _ (b : List ℕ) (m : ℕ) where
-  pub blocks-start : blocksRight (m - 0) (drop (512 * 0) b) ≡ blocksRight m b
-  blocks-start = rw (sub-zero m)
-
-  pub entries-start : entries (m - 0) (drop (512 * 0) b) ≡ entries m b
-  entries-start = rw (sub-zero m)
-
--- `blocks_right`
-module _ (b : List ℕ) (m k : ℕ) (inv : blocksRight (m - k) (drop (512 * k) b) ≡ blocksRight m b) where
-  pub blocks-done : m ≤ k → true ≡ blocksRight m b
-  blocks-done h = sym (sym inv ∙ blocks-none m k (drop (512 * k) b) h)
-
-  module _ (h : k < m) (r : Bool) (e : r ≡ blockRight (part (512 * k) (512 * k + 512 - 512 * k) b)) where
-    this : blocksRight m b ≡ r && blocksRight (m - (k + 1)) (drop (512 * (k + 1)) b)
-    this = let n : 512 * k + 512 - 512 * k ≡ 512 = omega arith in sym inv ∙ blocks-step b m k h ∙ rw (e, n)
-
-    pub blocks-wrong : r ≡ false → false ≡ blocksRight m b
-    blocks-wrong f = sym (rw f at this)
-
-    pub blocks-next : r ≡ true → blocksRight (m - (k + 1)) (drop (512 * (k + 1)) b) ≡ blocksRight m b
-    blocks-next f = sym (rw f at this)
-
--- the two numbers of a block
-module _ (b : List ℕ) (k : ℕ) (h : 512 * k + 512 ≤ length b) where
-  field : (at : ℕ) → at + 2 ≤ 512 → num at 2 (part (512 * k) 512 b) ≡ num (512 * k + at) 2 b
-  field at g = ap leOf (part-part b (512 * k) 512 at 2 g (omega arith))
-
-  pub service-number : num 0 2 (part (512 * k) 512 b) ≡ num (512 * k) 2 b
-  service-number = let e : 512 * k + 0 ≡ 512 * k = omega arith in field 0 (lit≤ tt) ∙ ap (λ (a : ℕ). num a 2 b) e
-
-  pub callback-number : num 2 2 (part (512 * k) 512 b) ≡ num (512 * k + 2) 2 b
-  callback-number = field 2 (lit≤ tt)
-
--- where a service and a callback stand
-module _ (b : List ℕ) (k : ℕ) (s : Sizes b) (h : 512 * k + 512 ≤ length b) (n : ℕ) where
-  pub service-ends : n ≡ num (512 * k) 2 b → 512 * k + 4 + n ≤ length b
-  service-ends e = omega (arith, s .service k h)
-
-  pub callback-ends : n ≡ num (512 * k + 2) 2 b → 512 * k + 204 + n ≤ length b
-  callback-ends e = omega (arith, s .callback k h)
-
-  pub service-is : n ≡ num (512 * k) 2 b → part (512 * k + 4) (512 * k + 4 + n - (512 * k + 4)) b ≡ decodeEntry (part (512 * k) 512 b) .service
-  unfolding decodeEntry
-  service-is e =
-      let w : 512 * k + 4 + n - (512 * k + 4) ≡ n = omega arith in
-      let z : num 0 2 (part (512 * k) 512 b) ≡ n = service-number b k h ∙ sym e in
-      rw (w, z) (sym (part-part b (512 * k) 512 4 n (omega (arith, s .service k h)) (omega arith)))
-
-  pub callback-is : n ≡ num (512 * k + 2) 2 b → part (512 * k + 204) (512 * k + 204 + n - (512 * k + 204)) b ≡ decodeEntry (part (512 * k) 512 b) .callback
-  unfolding decodeEntry
-  callback-is e =
-      let w : 512 * k + 204 + n - (512 * k + 204) ≡ n = omega arith in
-      let z : num 2 2 (part (512 * k) 512 b) ≡ n = callback-number b k h ∙ sym e in
-      rw (w, z) (sym (part-part b (512 * k) 512 204 n (omega (arith, s .callback k h)) (omega arith)))
-
--- `registered_from`: the service stands in what is left, or nowhere from the first block on
-module _ (b : List ℕ) (m k : ℕ) (s : List ℕ) (all : Bool) (inv : registered s (entries (m - k) (drop (512 * k) b)) ≡ all) where
-  pub registered-none : m ≤ k → false ≡ all
-  unfolding registered
-  registered-none h = sym (sym inv ∙ ap (registered s) (entries-none m k (drop (512 * k) b) h))
-
-  module _ (h : k < m) (v : List ℕ) (ev : v ≡ decodeEntry (part (512 * k) 512 b) .service) (r : Bool) (e : r ≡ same s v) where
-    here : if r true (registered s (entries (m - (k + 1)) (drop (512 * (k + 1)) b))) ≡ all
-    unfolding registered
-    here = sym (sym inv ∙ ap (registered s) (entries-step b m k h) ∙ rw (← ev, ← e))
-
-    pub registered-hit : r ≡ true → true ≡ all
-    registered-hit f = rw f at here
-
-    pub registered-next : r ≡ false → registered s (entries (m - (k + 1)) (drop (512 * (k + 1)) b)) ≡ all
-    registered-next f = rw f at here
-
--- `services_differ`
-pub among-registered : (s : List ℕ) (es : List Entry) → among s (servicesOf es) ≡ registered s es
-unfolding among servicesOf registered
-among-registered s [] = refl
-among-registered s (e ∷ es) = rw (among-registered s es)
-
-pub read-entries : (m : ℕ) (b : List ℕ) → map decodeEntry (blocks m 512 b) ≡ entries m b
-unfolding blocks entries
-read-entries zero b = refl
-read-entries (suc m) b = ap (λ (es : List Entry). decodeEntry (take 512 b) ∷ es) (read-entries m (drop 512 b))
-
-pub register-entries : (b : List ℕ) → decodeRegister b ≡ entries (length b / 512) b
+pub look-start : (s b : List ℕ) (m : ℕ) → m ≡ length b / 512 → Looking s b m 0
 unfolding decodeRegister
-register-entries b = read-entries (length b / 512) b
+look-start s b m e = record { count = e; high = omega arith; place = zero-add (placeOf s (left m 0 b)) ∙ rw (sub-zero m, e) }
 
-from-first : (b : List ℕ) (m : ℕ) → m ≡ length b / 512 → entries (m - 0) (drop (512 * 0) b) ≡ decodeRegister b
-from-first b m e = entries-start b m ∙ rw e (sym (register-entries b))
+module _ (s b : List ℕ) (m k : ℕ) (l : Looking s b m k) where
+  pub look-none : m ≤ k → m ≡ placeOf s (decodeRegister b)
+  unfolding placeOf
+  look-none h = let e : placeOf s (left m k b) ≡ 0 = ap (placeOf s) (left-none m k b h) in omega (arith, l .high, l .place)
 
-pub differ-start : (b : List ℕ) (m : ℕ) → m ≡ length b / 512 → allDiffer (servicesOf (entries (m - 0) (drop (512 * 0) b))) ≡ allDiffer (servicesOf (decodeRegister b))
-differ-start b m e = ap (λ (es : List Entry). allDiffer (servicesOf es)) (from-first b m e)
+  pub look-inside : k < m → 512 * k + 512 ≤ length b
+  look-inside h = omega (arith, l .count)
 
-pub callback-start : (b s : List ℕ) (m : ℕ) → m ≡ length b / 512 → callbackOf s (entries (m - 0) (drop (512 * 0) b)) ≡ callbackOf s (decodeRegister b)
-callback-start b s m e = ap (callbackOf s) (from-first b m e)
+  module _ (h : k < m) (v : List ℕ) (ev : v ≡ serviceIn b k) (r : Bool) (e : r ≡ same s v) where
+    here : k + if r 0 (suc (placeOf s (left m (k + 1) b))) ≡ placeOf s (decodeRegister b)
+    unfolding placeOf serviceIn
+    here = sym (sym (l .place) ∙ ap (λ (es : List Entry). k + placeOf s es) (left-step m k b h) ∙ rw (← ev, ← e))
 
-pub registered-all : (b s : List ℕ) (r : Bool) → r ≡ registered s (entries (length b / 512 - 0) (drop (512 * 0) b)) → r ≡ registered s (decodeRegister b)
-registered-all b s r e = e ∙ ap (registered s) (from-first b (length b / 512) refl)
+    pub look-hit : r ≡ true → k ≡ placeOf s (decodeRegister b)
+    look-hit f = omega (arith, rw f at here)
 
-module _ (b : List ℕ) (m k : ℕ) (all : Bool) (inv : allDiffer (servicesOf (entries (m - k) (drop (512 * k) b))) ≡ all) where
-  pub differ-done : m ≤ k → true ≡ all
-  unfolding allDiffer servicesOf
-  differ-done h = sym (sym inv ∙ ap (λ (es : List Entry). allDiffer (servicesOf es)) (entries-none m k (drop (512 * k) b) h))
+    pub look-next : r ≡ false → Looking s b m (k + 1)
+    look-next f = record { count = l .count; high = omega arith; place = omega (arith, rw f at here) }
 
-  module _ (h : k < m) (v : List ℕ) (ev : v ≡ decodeEntry (part (512 * k) 512 b) .service) (r : Bool) (e : r ≡ registered v (entries (m - (k + 1)) (drop (512 * (k + 1)) b))) where
-    again : not r && allDiffer (servicesOf (entries (m - (k + 1)) (drop (512 * (k + 1)) b))) ≡ all
-    unfolding allDiffer servicesOf
-    again = sym (sym inv ∙ ap (λ (es : List Entry). allDiffer (servicesOf es)) (entries-step b m k h) ∙ rw (← ev, among-registered v (entries (m - (k + 1)) (drop (512 * (k + 1)) b)), ← e))
+-- `registered` and `callback_of`: by the place
+both-more : (p n : ℕ) → ltb (suc p) (suc n) ≡ ltb p n
+both-more p n = one-test (ltb (suc p) (suc n)) (ltb p n) (λ e. lt-ltb p n (omega (arith, ltb-true (suc p) (suc n) e))) (λ e. lt-ltb (suc p) (suc n) (omega (arith, ltb-true p n e)))
 
-    pub differ-not : r ≡ true → false ≡ all
-    differ-not f = rw f at again
+module _ (s : List ℕ) where
+  registered-place : (n : ℕ) (b : List ℕ) → ltb (placeOf s (said n b)) n ≡ registered s (said n b)
+  unfolding placeOf registered blocks
+  registered-place zero b = refl
+  registered-place (suc n) b = go (same s (decodeEntry (take 512 b) .service)) (registered-place n (drop 512 b))
+    where
+      go : (x : Bool) → ltb (placeOf s (said n (drop 512 b))) n ≡ registered s (said n (drop 512 b))
+          → ltb (if x 0 (suc (placeOf s (said n (drop 512 b))))) (suc n) ≡ if x true (registered s (said n (drop 512 b)))
+      go true later = lt-ltb 0 (suc n) (omega arith)
+      go false later = both-more (placeOf s (said n (drop 512 b))) n ∙ later
 
-    pub differ-next : r ≡ false → allDiffer (servicesOf (entries (m - (k + 1)) (drop (512 * (k + 1)) b))) ≡ all
-    differ-next f = rw f at again
+  callback-place : (n : ℕ) (b : List ℕ) (p : ℕ) → p ≡ placeOf s (said n b) → p < n
+      → decodeEntry (part (512 * p) 512 b) .callback ≡ callbackOf s (said n b)
+  unfolding placeOf callbackOf blocks
+  callback-place zero b p e h = absurd (omega arith)
+  callback-place (suc n) b zero e h = first (same s (decodeEntry (take 512 b) .service)) e
+    where
+      first : (x : Bool) → 0 ≡ if x 0 (suc (placeOf s (said n (drop 512 b))))
+          → decodeEntry (take 512 b) .callback ≡ if x (decodeEntry (take 512 b) .callback) (callbackOf s (said n (drop 512 b)))
+      first true q = refl
+      first false q = absurd (omega arith)
+  callback-place (suc n) b (suc p) e h = later (same s (decodeEntry (take 512 b) .service)) e (callback-place n (drop 512 b) p)
+    where
+      later : (x : Bool) → suc p ≡ if x 0 (suc (placeOf s (said n (drop 512 b))))
+          → (p ≡ placeOf s (said n (drop 512 b)) → p < n → decodeEntry (part (512 * p) 512 (drop 512 b)) .callback ≡ callbackOf s (said n (drop 512 b)))
+          → decodeEntry (part (512 * suc p) 512 b) .callback ≡ if x (decodeEntry (take 512 b) .callback) (callbackOf s (said n (drop 512 b)))
+      later true q r = absurd (omega arith)
+      later false q r = ap (λ (x : List ℕ). decodeEntry x .callback) (sym (behind b p)) ∙ r (omega arith) (omega arith)
 
--- `callback_of`
-module _ (b : List ℕ) (m k : ℕ) (s all : List ℕ) (inv : callbackOf s (entries (m - k) (drop (512 * k) b)) ≡ all) where
-  pub callback-none : m ≤ k → take 0 b ≡ all
-  unfolding callbackOf
-  callback-none h = sym (sym inv ∙ ap (callbackOf s) (entries-none m k (drop (512 * k) b) h))
+  callback-none : (n : ℕ) (b : List ℕ) → n ≤ placeOf s (said n b) → callbackOf s (said n b) ≡ []
+  unfolding placeOf callbackOf blocks
+  callback-none zero b h = refl
+  callback-none (suc n) b h = go (same s (decodeEntry (take 512 b) .service)) h (callback-none n (drop 512 b))
+    where
+      go : (x : Bool) → suc n ≤ if x 0 (suc (placeOf s (said n (drop 512 b))))
+          → (n ≤ placeOf s (said n (drop 512 b)) → callbackOf s (said n (drop 512 b)) ≡ [])
+          → if x (decodeEntry (take 512 b) .callback) (callbackOf s (said n (drop 512 b))) ≡ []
+      go true q later = absurd (omega arith)
+      go false q later = later (omega arith)
 
-  module _ (h : k < m) (v : List ℕ) (ev : v ≡ decodeEntry (part (512 * k) 512 b) .service) (r : Bool) (e : r ≡ same s v) where
-    found : if r (decodeEntry (part (512 * k) 512 b) .callback) (callbackOf s (entries (m - (k + 1)) (drop (512 * (k + 1)) b))) ≡ all
-    unfolding callbackOf
-    found = sym (sym inv ∙ ap (callbackOf s) (entries-step b m k h) ∙ rw (← ev, ← e))
+module _ (s b : List ℕ) (p : ℕ) (e : p ≡ placeOf s (decodeRegister b)) where
+  pub stands : ltb p (length b / 512) ≡ registered s (decodeRegister b)
+  unfolding decodeRegister
+  stands = rw e (registered-place s (length b / 512) b)
 
-    pub callback-hit : (c : List ℕ) → r ≡ true → c ≡ decodeEntry (part (512 * k) 512 b) .callback → c ≡ all
-    callback-hit c f w = w ∙ rw f at found
+  pub callback-there : (c : List ℕ) → p < length b / 512 → c ≡ decodeEntry (part (512 * p) (512 * p + 512 - 512 * p) b) .callback → c ≡ callbackOf s (decodeRegister b)
+  unfolding decodeRegister
+  callback-there c h q =
+      let w : 512 * p + 512 - 512 * p ≡ 512 = omega arith in
+      q ∙ ap (λ (i : ℕ). decodeEntry (part (512 * p) i b) .callback) w ∙ callback-place s (length b / 512) b p e h
 
-    pub callback-next : r ≡ false → callbackOf s (entries (m - (k + 1)) (drop (512 * (k + 1)) b)) ≡ all
-    callback-next f = rw f at found
+  pub callback-nowhere : length b / 512 ≤ p → take 0 b ≡ callbackOf s (decodeRegister b)
+  unfolding decodeRegister
+  callback-nowhere h = sym (callback-none s (length b / 512) b (rw (← e) h))
 
-pub inside : (b : List ℕ) (k : ℕ) → length b ≡ 512 * (length b / 512) → k < length b / 512 → 512 * k + 512 ≤ length b
-inside b k e h = omega arith
+-- `at_fault`
+pub blocks-before : (b : List ℕ) (k : ℕ) → 512 * k + 512 ≤ length b → 512 * k ≡ length (take (512 * k) b)
+blocks-before b k h = sym (length-take-le (512 * k) b (omega arith))
+
+module _ (b : List ℕ) (k : ℕ) (q : Bool) (eq : q ≡ panelRight (part (512 * k) (512 * k + 512 - 512 * k) b)) where
+  this : panelRight (part (512 * k) 512 b) ≡ q
+  this = let w : 512 * k + 512 - 512 * k ≡ 512 = omega arith in sym (eq ∙ ap (λ (i : ℕ). panelRight (part (512 * k) i b)) w)
+
+  pub fault-wrong : q ≡ false → true ≡ atFault b k
+  unfolding atFault
+  fault-wrong f = rw (this, f)
+
+  pub fault-twice : (s : List ℕ) (r : Bool) → q ≡ true → s ≡ serviceIn b k → r ≡ registered s (decodeRegister (take (512 * k) b)) → r ≡ atFault b k
+  unfolding atFault
+  fault-twice s r f es er = er ∙ rw (this, f, es)
+
+-- `first_fault`: the first of what is left is the first of all
+pub record Seeking (b : List ℕ) (m k : ℕ) : Type 0 where
+  pub count : m ≡ length b / 512
+  pub high : k ≤ m
+  pub first : faultFrom k (m - k) b ≡ faultFrom 0 (length b / 512) b
+
+pub seek-start : (b : List ℕ) (m : ℕ) → m ≡ length b / 512 → Seeking b m 0
+seek-start b m e = record { count = e; high = omega arith; first = rw (sub-zero m, e) }
+
+module _ (b : List ℕ) (m k : ℕ) (l : Seeking b m k) where
+  pub seek-none : m ≤ k → m ≡ faultFrom 0 (length b / 512) b
+  unfolding faultFrom
+  seek-none h =
+      let z : m - k ≡ 0 = omega arith in
+      let q : k ≡ faultFrom 0 (length b / 512) b = sym (ap (λ (i : ℕ). faultFrom k i b) z) ∙ l .first in
+      omega (arith, l .high)
+
+  pub seek-inside : k < m → 512 * k + 512 ≤ length b
+  seek-inside h = omega (arith, l .count)
+
+  module _ (h : k < m) (r : Bool) (e : r ≡ atFault b k) where
+    turn : if r k (faultFrom (k + 1) (m - (k + 1)) b) ≡ faultFrom 0 (length b / 512) b
+    unfolding faultFrom
+    turn = let n : m - k ≡ suc (m - (k + 1)) = omega arith in sym (sym (l .first) ∙ ap (λ (i : ℕ). faultFrom k i b) n ∙ rw (← e))
+
+    pub seek-hit : r ≡ true → k ≡ faultFrom 0 (length b / 512) b
+    seek-hit f = rw f at turn
+
+    pub seek-next : r ≡ false → Seeking b m (k + 1)
+    seek-next f = record { count = l .count; high = omega arith; first = rw f at turn }
+
+-- `check`
+module _ (b : List ℕ) (s : Bool) (es : s ≡ registerShape (length b)) where
+  pub check-shape : s ≡ false → fault 3 0 ≡ faultOf b
+  unfolding faultOf registerLawful
+  check-shape f = rw (← es, f)
+
+  module _ (f : s ≡ true) (k : ℕ) (e : k ≡ faultFrom 0 (length b / 512) b) where
+    pub check-fault : k < length b / 512 → fault 3 k ≡ faultOf b
+    unfolding faultOf
+    check-fault h = rw (← es, f, ← e, faults-some b (sym es ∙ f) (rw e at h))
+
+    pub check-none : length b / 512 ≤ k → fault 0 0 ≡ faultOf b
+    unfolding faultOf
+    check-none h = rw (faults-none b (sym es ∙ f) (rw e at h))
+
+-- `register_lawful`
+pub lawful-as : (b : List ℕ) (r : Fault) → r ≡ faultOf b → eqb (r .refusal) 0 ≡ registerLawful b
+lawful-as b r e = ap (λ (x : Fault). eqb (x .refusal) 0) e ∙ rw (fault-refusal b) (go (registerLawful b))
+  where
+    go : (x : Bool) → eqb (if x 0 3) 0 ≡ x
+    go true = refl
+    go false = refl

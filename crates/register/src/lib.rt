@@ -1,15 +1,16 @@
-// The panel register: judged by every rule, a service found in it, and the callback of a service handed out as a part of the
-// register's own bytes. A block: 0-1 and 2-3 lengths of service and callback, 4-203 service, 204-403 callback, rest zero
-// before the check.
+// The panel register: judged block by block, a service found in it, the callback of a service handed out as a part of the register's own
+// bytes, and a block made. A block: 0-1 and 2-3 lengths of service and callback, 4-203 service, 204-403 callback, rest zero before the
+// check.
+use protocol::Fault;
 ghost use mathlib.Core.Path.{_≡_};
-ghost use mathlib.Core.Bool.{true};
-ghost use Prim.Native.Nat.{_+_, _-_, _*_, _/_, _≤_};
-ghost use lib.ListN.{length, drop};
-ghost use Rattle.protocol.specs.Bytes.{holds, allDiffer, part};
-ghost use Rattle.protocol.specs.Register.{addressRight, decodeEntry, decodeRegister, registerShape, registerLawful, servicesOf, registered, callbackOf};
-ghost use Rattle.register.specs.Blockwise.{Sizes, secure, textsRight, blockRight, blocksRight, entries};
+ghost use Prim.Native.Nat.{_+_, _*_, _/_, _≤_};
+ghost use lib.ListN.{length};
+ghost use Rattle.protocol.specs.Bytes.{holds, num, part};
+ghost use Rattle.protocol.specs.Register.{addressRight, entryRight, encodeEntry, decodeEntry, decodeRegister, registerShape, registerLawful, registered, callbackOf};
+ghost use Rattle.protocol.specs.Panels.{entry, panelRefusal, made, panelOf, panelRight, serviceIn, atFault, faultFrom, faultOf};
+ghost use Rattle.register.specs.Blockwise.{secure, restRight, placeOf};
 
-// ---- one block
+// ---- the rules of an entry
 
 fn has_byte(s: &[u8], b: u8) -> bool
     ensures { λ r. ⌜ r ≡ holds b (now (s .entry)) ⌝ }
@@ -41,108 +42,143 @@ fn is_secure(s: &[u8]) -> bool
     text::same(&s[..8], b"https://")
 }
 
-// A service of n bytes and a callback of m: their bytes, and zeros up to the check, which is right.
-fn texts_right(b: &[u8], n: usize, m: usize) -> bool
-    requires { ⌜ (length (now b) ≡ 512) × ((n ≤ 200) × (m ≤ 200)) ⌝ }
-    ensures { λ r. ⌜ r ≡ textsRight n m (now (b .entry)) ⌝ }
+// A service of 1 to 200 bytes, a callback of at most 200.
+fn entry_right(service: &[u8], callback: &[u8]) -> bool
+    ensures { λ r. ⌜ r ≡ entryRight (entry (now (service .entry)) (now (callback .entry))) ⌝ }
+{
+    ((1 <= service.len()) & (service.len() <= 200))
+        & (callback.len() <= 200)
+        & address_right(service)
+        & address_right(callback)
+        & is_secure(callback)
+}
+
+// ---- one block
+
+// A text of a block where it stands, by the field of its length. A length beyond the block reads to the block's end.
+fn text_of<'a>(b: &'a [u8], field: usize, at: usize) -> &'a [u8]
+    requires { ⌜ (length (now b) ≡ 512) × (field ≤ 2) × (at ≤ 204) ⌝ }
+    ensures { λ r. ⌜ now r ≡ part at (num field 2 (now (b .entry))) (now (b .entry)) ⌝ }
+{
+    let n = block::get_u16(b, field) as usize;
+    let to = at + n;
+    if to < 512 {
+        return &b[at..to];
+    }
+    &b[at..]
+}
+
+fn service_of<'a>(b: &'a [u8]) -> &'a [u8]
+    requires { ⌜ length (now b) ≡ 512 ⌝ }
+    ensures { λ r. ⌜ now r ≡ decodeEntry (now (b .entry)) .service ⌝ }
+{
+    text_of(b, 0, 4)
+}
+
+fn callback_in<'a>(b: &'a [u8]) -> &'a [u8]
+    requires { ⌜ length (now b) ≡ 512 ⌝ }
+    ensures { λ r. ⌜ now r ≡ decodeEntry (now (b .entry)) .callback ⌝ }
+{
+    text_of(b, 2, 204)
+}
+
+// Behind texts of n and m bytes.
+fn rest_right(b: &[u8], n: usize, m: usize) -> bool
+    requires { ⌜ (length (now b) ≡ 512) × (n ≤ 200) × (m ≤ 200) ⌝ }
+    ensures { λ r. ⌜ r ≡ restRight n m (now (b .entry)) ⌝ }
 {
     let service = 4 + n;
     let callback = 204 + m;
     block::block_ok(b, 0)
-        & address_right(&b[4..service])
         & block::all_within(&b[service..204], 0, 0)
-        & address_right(&b[204..callback])
         & block::all_within(&b[callback..508], 0, 0)
-        & is_secure(&b[204..callback])
 }
 
 fn block_right(b: &[u8]) -> bool
     requires { ⌜ length (now b) ≡ 512 ⌝ }
-    ensures { λ r. ⌜ r ≡ blockRight (now (b .entry)) ⌝ }
+    ensures { λ r. ⌜ r ≡ panelRight (now (b .entry)) ⌝ }
 {
-    let n = block::get_u16(b, 0) as usize;
-    let m = block::get_u16(b, 2) as usize;
-    if (1 <= n) & (n <= 200) & (m <= 200) {
-        return texts_right(b, n, m);
+    let service = service_of(b);
+    let callback = callback_in(b);
+    if entry_right(service, callback) {
+        return rest_right(b, service.len(), callback.len());
     }
     false
 }
 
-// ---- all blocks
+// ---- services
 
-fn blocks_right(b: &[u8]) -> bool
-    requires { ⌜ length (now b) ≡ 512 * (length (now b) / 512) ⌝ }
-    ensures { λ r. ⌜ r ≡ blocksRight (length (now (b .entry)) / 512) (now (b .entry)) ⌝ }
+// The service of block k, where it stands.
+fn service_at<'a>(b: &'a [u8], k: usize) -> &'a [u8]
+    requires { ⌜ 512 * k + 512 ≤ length (now b) ⌝ }
+    ensures { λ r. ⌜ now r ≡ serviceIn (now (b .entry)) k ⌝ }
+{
+    let from = 512 * k;
+    let to = from + 512;
+    service_of(&b[from..to])
+}
+
+// The first block that has a service; the count of blocks where none has.
+fn place_of(b: &[u8], service: &[u8]) -> usize
+    ensures { λ r. ⌜ r ≡ placeOf (now (service .entry)) (decodeRegister (now (b .entry))) ⌝ }
 {
     let m = b.len() / 512;
     let mut k = 0;
-    while k < m {
-        let from = 512 * k;
-        let to = from + 512;
-        if block_right(&b[from..to]) {
-            k += 1;
-        } else {
-            return false;
-        }
-    }
-    true
-}
-
-// The service of a block, and its callback, where they stand.
-fn service_at<'a>(b: &'a [u8], k: usize) -> &'a [u8]
-    requires { ⌜ Sizes (now b) ⌝ }
-    requires { ⌜ 512 * k + 512 ≤ length (now b) ⌝ }
-    ensures { λ r. ⌜ now r ≡ decodeEntry (part (512 * k) 512 (now (b .entry))) .service ⌝ }
-{
-    let at = 512 * k;
-    let n = block::get_u16(b, at) as usize;
-    let from = at + 4;
-    let to = from + n;
-    &b[from..to]
-}
-
-fn callback_at<'a>(b: &'a [u8], k: usize) -> &'a [u8]
-    requires { ⌜ Sizes (now b) ⌝ }
-    requires { ⌜ 512 * k + 512 ≤ length (now b) ⌝ }
-    ensures { λ r. ⌜ now r ≡ decodeEntry (part (512 * k) 512 (now (b .entry))) .callback ⌝ }
-{
-    let at = 512 * k;
-    let n = block::get_u16(b, at + 2) as usize;
-    let from = at + 204;
-    let to = from + n;
-    &b[from..to]
-}
-
-// Whether a service stands in a block from `first` on.
-fn registered_from(b: &[u8], first: usize, service: &[u8]) -> bool
-    requires { ⌜ Sizes (now b) ⌝ }
-    ensures { λ r. ⌜ r ≡ registered (now (service .entry)) (entries (length (now (b .entry)) / 512 - first) (drop (512 * first) (now (b .entry)))) ⌝ }
-{
-    let m = b.len() / 512;
-    let mut k = first;
     while k < m {
         if text::same(service, service_at(b, k)) {
-            return true;
+            return k;
         }
         k += 1;
     }
-    false
+    m
 }
 
-fn services_differ(b: &[u8]) -> bool
-    requires { ⌜ Sizes (now b) ⌝ }
-    ensures { λ r. ⌜ r ≡ allDiffer (servicesOf (decodeRegister (now (b .entry)))) ⌝ }
+pub fn registered(b: &[u8], service: &[u8]) -> bool
+    ensures { λ r. ⌜ r ≡ registered (now (service .entry)) (decodeRegister (now (b .entry))) ⌝ }
+{
+    place_of(b, service) < b.len() / 512
+}
+
+// Empty where the service is not registered.
+pub fn callback_of<'a, 'b>(b: &'a [u8], service: &'b [u8]) -> &'a [u8]
+    ensures { λ r. ⌜ now r ≡ callbackOf (now (service .entry)) (decodeRegister (now (b .entry))) ⌝ }
+{
+    let k = place_of(b, service);
+    if k < b.len() / 512 {
+        let from = 512 * k;
+        let to = from + 512;
+        return callback_in(&b[from..to]);
+    }
+    &b[..0]
+}
+
+// ---- the judge
+
+fn at_fault(b: &[u8], k: usize) -> bool
+    requires { ⌜ 512 * k + 512 ≤ length (now b) ⌝ }
+    ensures { λ r. ⌜ r ≡ atFault (now (b .entry)) k ⌝ }
+{
+    let from = 512 * k;
+    let to = from + 512;
+    if block_right(&b[from..to]) {
+        return registered(&b[..from], service_at(b, k));
+    }
+    true
+}
+
+// The first block at fault; the count of blocks where none is.
+fn first_fault(b: &[u8]) -> usize
+    ensures { λ r. ⌜ r ≡ faultFrom 0 (length (now (b .entry)) / 512) (now (b .entry)) ⌝ }
 {
     let m = b.len() / 512;
     let mut k = 0;
     while k < m {
-        let s = service_at(b, k);
-        if registered_from(b, k + 1, s) {
-            return false;
+        if at_fault(b, k) {
+            return k;
         }
         k += 1;
     }
-    true
+    m
 }
 
 fn shape_right(n: usize) -> bool
@@ -151,39 +187,65 @@ fn shape_right(n: usize) -> bool
     (n % 512 == 0) & ((1 <= n / 512) & (n / 512 <= 16))
 }
 
-// ---- the calls
+// The refusal of a register, 3 or 0, and its first block at fault.
+pub fn check(b: &[u8]) -> Fault
+    ensures { λ r. ⌜ r ≡ faultOf (now (b .entry)) ⌝ }
+{
+    if shape_right(b.len()) {
+        let block = first_fault(b);
+        if block < b.len() / 512 {
+            return Fault { refusal: 3, block };
+        }
+        return Fault {
+            refusal: 0,
+            block: 0,
+        };
+    }
+    Fault {
+        refusal: 3,
+        block: 0,
+    }
+}
 
 pub fn register_lawful(b: &[u8]) -> bool
     ensures { λ r. ⌜ r ≡ registerLawful (now (b .entry)) ⌝ }
 {
-    if shape_right(b.len()) {
-        if blocks_right(b) {
-            return services_differ(b);
-        }
-        return false;
-    }
-    false
+    check(b).refusal == 0
 }
 
-pub fn registered(b: &[u8], service: &[u8]) -> bool
-    requires { ⌜ registerLawful (now b) ≡ true ⌝ }
-    ensures { λ r. ⌜ r ≡ registered (now (service .entry)) (decodeRegister (now (b .entry))) ⌝ }
+// ---- a block made
+
+fn panel_refusal(service: &[u8], callback: &[u8], size: usize) -> u32
+    ensures { λ r. ⌜ r ≡ panelRefusal (now (service .entry)) (now (callback .entry)) size ⌝ }
 {
-    registered_from(b, 0, service)
+    if entry_right(service, callback) {
+        if size == 512 {
+            return 0;
+        }
+        return 4;
+    }
+    3
 }
 
-// Empty where the service is not registered.
-pub fn callback_of<'a, 'b>(b: &'a [u8], service: &'b [u8]) -> &'a [u8]
-    requires { ⌜ registerLawful (now b) ≡ true ⌝ }
-    ensures { λ r. ⌜ now r ≡ callbackOf (now (service .entry)) (decodeRegister (now (b .entry))) ⌝ }
+fn put_entry(b: &mut [u8], service: &[u8], callback: &[u8])
+    requires { ⌜ (length (now b) ≡ 512) × (length (now service) ≤ 200) × (length (now callback) ≤ 200) ⌝ }
+    ensures { λ _. ⌜ now (b .exit) ≡ encodeEntry (entry (now (service .entry)) (now (callback .entry))) ⌝ }
 {
-    let m = b.len() / 512;
-    let mut k = 0;
-    while k < m {
-        if text::same(service, service_at(b, k)) {
-            return callback_at(b, k);
-        }
-        k += 1;
+    block::put(b, 0, 2, service.len() as u64);
+    block::put(b, 2, 2, callback.len() as u64);
+    block::pad_at(b, 4, 200, service);
+    block::pad_at(b, 204, 304, callback);
+    block::seal(b);
+}
+
+// The block of a service and a callback: its refusal, 3 or 4, else 0.
+pub fn panel(service: &[u8], callback: &[u8], block: &mut [u8]) -> u32
+    ensures { λ r. ⌜ made r (now (block .exit)) ≡ panelOf (now (service .entry)) (now (callback .entry)) (now (block .entry)) ⌝ }
+{
+    let number = panel_refusal(service, callback, block.len());
+    if number != 0 {
+        return number;
     }
-    &b[..0]
+    put_entry(block, service, callback);
+    0
 }

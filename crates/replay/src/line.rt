@@ -1,5 +1,4 @@
 // The line that is written for a call.
-use protocol::Answer;
 use protocol::Form;
 use protocol::Outcome;
 use protocol::Visit;
@@ -118,17 +117,6 @@ pub fn say_visit(visit: Visit, out: &[u8], table: &[u8]) {
     end_line();
 }
 
-fn kind_of(a: Answer) -> u64 {
-    match a {
-        Answer::Nothing => 0,
-        Answer::Page(_) => 1,
-        Answer::Redirect(_) => 2,
-        Answer::Text(_) => 3,
-        Answer::Xml(_) => 4,
-        Answer::Callback(_) => 5,
-    }
-}
-
 // Answer and finish: the outcome, the bytes that it reports, and the sums of all that the call may write.
 pub fn say_outcome(letter: u8, o: Outcome, out: &[u8], cookie: &[u8], table: &[u8]) {
     say_letter(letter);
@@ -149,7 +137,7 @@ pub fn say_finish(o: Outcome, out: &[u8], table: &[u8]) {
 fn say_fields(o: Outcome) {
     say_number(o.refusal as u64);
     let answer = o.answer;
-    say_number(kind_of(answer));
+    say_number(reply::number_of(answer) as u64);
     say_number(o.status as u64);
     say_number(o.length as u64);
     say_number(o.cookie_length as u64);

@@ -1,15 +1,16 @@
 -- A reply's bytes written from the start, and its result with their number, say the reply. Assumes nothing.
-use mathlib.Core.Path.{_≡_, refl, _∙_}
+use mathlib.Core.Path.{_≡_, refl, sym, ap, _∙_}
 use mathlib.Core.Bool.{Bool, true, false}
 use mathlib.Core.List.{List, [], _∷_}
 use Prim.Native.Nat.{ℕ, _≤_}
 use native.Mathlib.Omega.{arith}
 use lib.ListN.{length}
-use Rattle.protocol.specs.Bytes.{isEmpty}
-use Rattle.protocol.specs.Answers.{Code, Reply, ErrorPage, SignedIn, SignedOut, FormPage, RedirectTo, YesNo, Success, Failure, ProxySuccess, ProxyFailure, CallbackTo, replyText, replyAnswer, callbackText}
+use Rattle.protocol.specs.Bytes.{if, isEmpty}
+use Rattle.protocol.specs.Answers.{Code, Reply, ErrorPage, SignedIn, SignedOut, FormPage, RedirectTo, YesNo, Success, Failure, ProxySuccess, ProxyFailure, CallbackTo, replyText, replyAnswer, dataOf, callbackText}
 use Rattle.protocol.specs.Calls.{outcomeWith}
 use Rattle.protocol.specs.Written.{Wrote}
 use Rattle.protocol.specs.Held.{Said}
+use Rattle.protocol.specs.declared.Answer.{Answer}
 use Rattle.protocol.specs.declared.Answer.the-variants as answer
 use Rattle.protocol.specs.declared.Outcome.{Outcome}
 use Rattle.reply.specs.Told.{toldOf}
@@ -72,3 +73,13 @@ module _ {n : ℕ} {r : Outcome} {o o′ : List ℕ} where
   pub said-callback : {url pgt iou : List ℕ} {serial : ℕ} → Wrote o 0 o′ n (callbackText url pgt iou) → r ≡ toldOf (answer.Callback serial) n → Said (CallbackTo url pgt iou serial) r o o′
   unfolding replyAnswer replyText
   said-callback {url} {pgt} {iou} {serial} w q = said (CallbackTo url pgt iou serial) w q
+
+-- the data of an answer that has some
+pub data-redirect : (a : Answer) (t : Bool) {r : ℕ} → a ≡ answer.Redirect t → r ≡ if t 1 0 → r ≡ dataOf a
+data-redirect a t e q = q ∙ ap dataOf (sym e)
+
+pub data-text : (a : Answer) (t : Bool) {r : ℕ} → a ≡ answer.Text t → r ≡ if t 1 0 → r ≡ dataOf a
+data-text a t e q = q ∙ ap dataOf (sym e)
+
+pub data-xml : (a : Answer) (t : Bool) {r : ℕ} → a ≡ answer.Xml t → r ≡ if t 1 0 → r ≡ dataOf a
+data-xml a t e q = q ∙ ap dataOf (sym e)

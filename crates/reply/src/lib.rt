@@ -1,4 +1,5 @@
-// What a step says: the reply's bytes, written from the start of the output, and the result that goes with them.
+// What a step says: the reply's bytes, written from the start of the output, and the result that goes with them; and the numbers by which
+// an answer is told to a host.
 use protocol::Answer;
 use protocol::Outcome;
 use xml::Code;
@@ -6,10 +7,45 @@ ghost use mathlib.Core.Path.{_≡_};
 ghost use mathlib.Core.List.{[]};
 ghost use Prim.Native.Nat.{_≤_};
 ghost use lib.ListN.{length};
-ghost use Rattle.protocol.specs.Answers.{statusOf, serialOf, ErrorPage, SignedIn, SignedOut, FormPage, RedirectTo, YesNo, Failure, ProxySuccess, ProxyFailure, CallbackTo};
+ghost use Rattle.protocol.specs.Bytes.{if};
+ghost use Rattle.protocol.specs.Answers.{numberOf, dataOf, statusOf, serialOf, ErrorPage, SignedIn, SignedOut, FormPage, RedirectTo, YesNo, Failure, ProxySuccess, ProxyFailure, CallbackTo};
 ghost use Rattle.protocol.specs.Held.{Said};
 ghost use Rattle.xml.specs.Codes.{codeOf};
 ghost use Rattle.reply.specs.Told.{toldOf};
+
+// The number of an answer's case: 0 none, 1 page, 2 redirect, 3 text, 4 XML, 5 callback.
+pub fn number_of(a: Answer) -> u32
+    ensures { λ r. ⌜ r ≡ numberOf a ⌝ }
+{
+    match a {
+        Answer::Nothing => 0,
+        Answer::Page(_) => 1,
+        Answer::Redirect(_) => 2,
+        Answer::Text(_) => 3,
+        Answer::Xml(_) => 4,
+        Answer::Callback(_) => 5,
+    }
+}
+
+pub fn flag_of(b: bool) -> u32
+    ensures { λ r. ⌜ r ≡ if b 1 0 ⌝ }
+{
+    if b { 1 } else { 0 }
+}
+
+// Its data: 1 where a redirect carries a ticket, text says yes, XML tells of success.
+pub fn data_of(a: Answer) -> u32
+    ensures { λ r. ⌜ r ≡ dataOf a ⌝ }
+{
+    match a {
+        Answer::Nothing => 0,
+        Answer::Page(_) => 0,
+        Answer::Redirect(ticket) => flag_of(ticket),
+        Answer::Text(yes) => flag_of(yes),
+        Answer::Xml(success) => flag_of(success),
+        Answer::Callback(_) => 0,
+    }
+}
 
 fn status_of(a: Answer) -> u32
     ensures { λ r. ⌜ r ≡ statusOf a ⌝ }

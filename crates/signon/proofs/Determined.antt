@@ -7,9 +7,12 @@ use lib.Dec.{eqb}
 use lib.ListN.{length}
 use borrow.Author.Tests.{eqb-true, eqb-false, eq-eqb, ne-eqb}
 use Rattle.protocol.specs.Table.{tableShape, tableLawful}
+use Rattle.protocol.specs.Register.{registerShape, registerLawful}
 use Rattle.protocol.specs.Calls.{Inputs, Result, refusal, answerOf, finishRefusal, finishOf, Numbered, formatRefusal, formatOf, checkOf, FormRead, formRefusal, formOf}
 use Rattle.protocol.specs.Visits.{visitRefusal, VisitRead, visitOf}
-use Rattle.signon.specs.Promise.{Formats, Checks, Reads, Answers, Finishes, Visits}
+use Rattle.protocol.specs.Panels.{panelRefusal, Made, panelOf, faultOf}
+use Rattle.protocol.specs.declared.Fault.{Fault}
+use Rattle.signon.specs.Promise.{Formats, Checks, Reads, Answers, Finishes, Visits, Makes, Judges}
 
 -- refused, or not
 by-number : {C : Type 0} (n : ℕ) → (n ≡ 0 → C) → ((n ≡ 0 → ⊥) → C) → C
@@ -81,3 +84,28 @@ module _ (table cookie : List ℕ) (number time : ℕ) (random out : List ℕ) w
   pub visit-promised : (o : VisitRead) → o ≡ visitOf table cookie number time random out → Visits table cookie number time random out o
   unfolding visitOf
   visit-promised o e = record { refused = λ h. e ∙ rw (ne-eqb number-of 0 h); answered = λ z. e ∙ rw (eq-eqb number-of 0 z) }
+
+module _ (service callback block : List ℕ) where
+  pub panel-determined : (o o′ : Made) → Makes service callback block o → Makes service callback block o′ → o ≡ o′
+  panel-determined o o′ p q =
+      by-number (panelRefusal service callback (length block)) (λ z. p .answered z ∙ sym (q .answered z)) (λ h. p .refused h ∙ sym (q .refused h))
+
+  pub panel-promised : (o : Made) → o ≡ panelOf service callback block → Makes service callback block o
+  unfolding panelOf
+  panel-promised o e =
+      record { refused = λ h. e ∙ rw (ne-eqb (panelRefusal service callback (length block)) 0 h); answered = λ z. e ∙ rw (eq-eqb (panelRefusal service callback (length block)) 0 z) }
+
+pub register-determined : (register : List ℕ) (o o′ : Fault) → Judges register o → Judges register o′ → o ≡ o′
+register-determined register o o′ p q =
+    by-test (registerShape (length register))
+    (λ s. by-test (registerLawful register) (λ l. p .lawful s l ∙ sym (q .lawful s l)) (λ l. p .rules s l ∙ sym (q .rules s l)))
+    (λ s. p .shape s ∙ sym (q .shape s))
+
+wrong-shape : (register : List ℕ) → registerShape (length register) ≡ false → registerLawful register ≡ false
+unfolding registerLawful
+wrong-shape register s = rw s
+
+pub register-promised : (register : List ℕ) (o : Fault) → o ≡ faultOf register → Judges register o
+unfolding faultOf
+register-promised register o e =
+    record { shape = λ s. e ∙ rw (wrong-shape register s, s); rules = λ s l. e ∙ rw (l, s); lawful = λ s l. e ∙ rw l }

@@ -5,10 +5,13 @@ use mathlib.Core.Bool.{Bool, true, false}
 use mathlib.Core.List.{List, []}
 use Prim.Native.Nat.{ℕ, _-_, _/_}
 use lib.ListN.{length}
+use Rattle.protocol.specs.Register.{encodeEntry, registerShape, registerLawful}
 use Rattle.protocol.specs.Table.{tableShape, tableLawful, encodeTable, decodeTable, formatted}
 use Rattle.protocol.specs.Request.{fromBody}
 use Rattle.protocol.specs.Steps.{tick, finish}
 use Rattle.protocol.specs.Visits.{visitRefusal, visitSaid, VisitRead, visitGiven, visitRefused}
+use Rattle.protocol.specs.Panels.{entry, panelRefusal, Made, made, faultFrom, fault}
+use Rattle.protocol.specs.declared.Fault.{Fault}
 use Rattle.protocol.specs.Calls.{Inputs, Result, refusal, stepOf, delivered, unchanged, finishRefusal, Numbered, numbered, formatRefusal, FormRead, formRefusal, formGiven, formRefused}
 
 -- format: its number, or a fresh table
@@ -41,3 +44,14 @@ pub record Finishes (table : List ℕ) (serial : ℕ) (outcome : Bool) (time : �
 pub record Visits (table cookie : List ℕ) (number time : ℕ) (random out : List ℕ) (o : VisitRead) : Type 0 where
   pub refused : (visitRefusal table cookie number time (length random) (length out) ≡ 0 → ⊥) → o ≡ visitRefused (visitRefusal table cookie number time (length random) (length out)) table out
   pub answered : visitRefusal table cookie number time (length random) (length out) ≡ 0 → o ≡ visitGiven (visitSaid table cookie number time random) table out
+
+-- panel: its number, or the block of the two texts
+pub record Makes (service callback block : List ℕ) (o : Made) : Type 0 where
+  pub refused : (panelRefusal service callback (length block) ≡ 0 → ⊥) → o ≡ made (panelRefusal service callback (length block)) block
+  pub answered : panelRefusal service callback (length block) ≡ 0 → o ≡ made 0 (encodeEntry (entry service callback))
+
+-- check_register: 3 and block 0 for a wrong length, 3 and the first block at fault for a broken rule, else 0 and 0
+pub record Judges (register : List ℕ) (o : Fault) : Type 0 where
+  pub shape : registerShape (length register) ≡ false → o ≡ fault 3 0
+  pub rules : registerShape (length register) ≡ true → registerLawful register ≡ false → o ≡ fault 3 (faultFrom 0 (length register / 512) register)
+  pub lawful : registerShape (length register) ≡ true → registerLawful register ≡ true → o ≡ fault 0 0

@@ -1,7 +1,8 @@
-// The six calls: format a table, check a table, read username and password from a form, answer a request, finish a callback, tell a
-// visit. A host calls these and nothing else. Each takes any bytes: it is refused by number, in the order of the list, and then nothing
+// The eight calls: format a table, check a table, read username and password from a form, answer a request, finish a callback, tell a
+// visit, make a register block, check a register. A host calls these and nothing else. Each takes any bytes: it is refused by number, in the order of the list, and then nothing
 // is written; or it does what the protocol says.
 use protocol::Answer;
+use protocol::Fault;
 use protocol::Form;
 use protocol::Method;
 use protocol::Outcome;
@@ -10,6 +11,7 @@ ghost use mathlib.Core.Path.{_≡_};
 ghost use mathlib.Core.List.{[]};
 ghost use Rattle.protocol.specs.Calls.{refusedOutcome, numbered, formatOf, checkOf, formRead, formOf, inputs, result, answerOf, finishOf};
 ghost use Rattle.protocol.specs.Visits.{visitRead, visitOf};
+ghost use Rattle.protocol.specs.Panels.{made, panelOf, faultOf};
 
 // A refused call's result: its number, all else 0.
 fn refused(number: u32) -> Outcome
@@ -124,4 +126,18 @@ pub fn visit(
         return Visit { refusal, length: 0 };
     }
     visit::tell(table, cookie, number, time, random, out)
+}
+
+// The register block of a service and a callback, check included: the refusal's number, else 0.
+pub fn panel(service: &[u8], callback: &[u8], block: &mut [u8]) -> u32
+    ensures { λ r. ⌜ made r (now (block .exit)) ≡ panelOf (now (service .entry)) (now (callback .entry)) (now (block .entry)) ⌝ }
+{
+    register::panel(service, callback, block)
+}
+
+// Whether a register is lawful: 0, else the refusal's number and the first block at fault.
+pub fn check_register(register: &[u8]) -> Fault
+    ensures { λ r. ⌜ r ≡ faultOf (now (register .entry)) ⌝ }
+{
+    register::check(register)
 }

@@ -15,7 +15,7 @@ use Rattle.protocol.specs.Held.{Sized, Fits, Fine, Holds, In}
 use Rattle.protocol.proofs.Laws.{length-pad, pad-full, length-bytes, length-body, length-rec, length-head}
 use Rattle.protocol.proofs.Places.{slots-count}
 use Rattle.protocol.proofs.Sound.{free-fits}
-use Rattle.block.proofs.Lay.{Laid, laid-first, laid-next, lent}
+use Rattle.block.proofs.Lay.{laid-first, laid-next, lent, front}
 use Rattle.protocol.proofs.Held.{slot-of, block-of, fits-of, laid-rec, laid-head}
 use Rattle.table.specs.declared.Fields.{Fields}
 use Rattle.table.specs.Parts.{Block, recOf, numbersOf, textsOf}
@@ -101,13 +101,6 @@ module _ (t : List ℕ) (k : ℕ) {b : List ℕ} (i : In k t) (at : Block k t b)
       rw h (sym text-said)
 
 -- Filling a block
-
--- all 508 bytes of a block, in front of its check
-front : {s text l : List ℕ} → Laid s 512 0 508 text l → take 508 l ≡ text
-unfolding spliced
-front {s} {text} p =
-    let n : length text ≡ 508 = omega (arith, p .len) in
-    rw (p .eq) (take-at text (drop (0 + length text) s) 508 n)
 
 pub numbers-filled : (f : Fields) (s : List ℕ) {l1 l2 l3 l4 l5 l6 l7 l8 l9 : List ℕ} → length s ≡ 512
     → l9 ≡ spliced l8 16 (bytesOf 8 (f .expiry))

@@ -1,22 +1,17 @@
--- `refuse::of_finish` meets its contract: each test is a rung of the list. Assumes nothing.
+-- `refuse::of_finish` meets its contract: the first two numbers, then each test is a rung of the list. Assumes nothing.
 use borrow.Author.Needs.{needs}
 use Rattle.protocol.specs.Calls.{finishRefusal}
-use Rattle.refuse.proofs.Laws.{rung-no, rung-yes, told}
+use Rattle.refuse.proofs.Laws.{judged-no, judged-yes}
 use Rattle.refuse.proofs.of_finish.Statement.{statement}
 use Rattle.refuse.proofs.of_finish.Tie as tie
 
 returns : tie.Need-returns
 unfolding finishRefusal
-returns c = search rung-yes depth 12
+returns c = search judged-no
 
 returns-2 : tie.Need-returns-2
 unfolding finishRefusal
-returns-2 c = search (rung-no, rung-yes) depth 12
-
-returns-3 : tie.Need-returns-3
-unfolding finishRefusal
-returns-3 c = search (rung-no, rung-yes) depth 12
+returns-2 c = search judged-yes
 
 pub of-finish-spec : {M : Type 1} → statement M
-of-finish-spec =
-    tie.close (tie.spec (λ c κs. search needs) (λ c κs. search (needs, told)) (λ c κs. search needs) returns returns-2 returns-3)
+of-finish-spec = tie.close (tie.spec (λ c κs. search needs) returns (λ c κs. search needs) returns-2)

@@ -1,0 +1,12 @@
+-- The two places filled.
+use borrow.Author.Needs.{needs}
+use Rattle.export.proofs.Laws.{fault-put}
+use Rattle.export.proofs.put_fault.Statement.{statement}
+use Rattle.export.proofs.put_fault.Tie as tie
+
+returns : tie.Need-returns
+returns c = search fault-put
+
+pub put-fault-spec : {M : Type 1} → statement M
+put-fault-spec =
+    tie.close (tie.spec (λ c. search needs) (λ c. search needs) (λ c. search needs) (λ c. search needs) returns)

@@ -1,0 +1,12 @@
+-- `register::service_of` meets its contract. Assumes nothing.
+use borrow.Author.Needs.{needs}
+use Rattle.protocol.specs.Register.{decodeEntry}
+use Rattle.register.proofs.service_of.Statement.{statement}
+use Rattle.register.proofs.service_of.Tie as tie
+
+returns : tie.Need-returns
+unfolding decodeEntry
+returns c = search needs
+
+pub service-of-spec : {M : Type 1} → statement M
+service-of-spec = tie.close (tie.spec (λ c κs. search needs) returns)
