@@ -91,9 +91,10 @@ impl Config {
         self.panels.iter().flat_map(|panel| register::block(&panel.service, &panel.callback)).collect()
     }
 
-    /// What to say where the core finds fault with this block of the register.
-    pub fn register_fault(&self, block: u32) -> String {
-        let place = self.panels.get(block as usize).map_or("the configuration", |panel| &panel.place);
+    /// What to say where the core finds fault with the register, at this block or at one that it does not tell.
+    pub fn register_fault(&self, block: Option<u32>) -> String {
+        let panel = block.and_then(|block| self.panels.get(block as usize));
+        let place = panel.map_or("one of the panels", |panel| &panel.place);
         format!(
             "{place}: the core refuses this panel (refusal 3): a service has 1 to 200 printable ASCII characters without space and #, \
              so has a callback, which begins https://, and no service stands twice"
@@ -213,6 +214,6 @@ mod tests {
     #[test]
     fn the_core_s_fault_is_told_with_the_panel_s_line() {
         let config = parse(GOOD, Path::new("/etc/ranch.toml"), None).unwrap();
-        assert!(config.register_fault(0).starts_with("/etc/ranch.toml, line 5: "));
+        assert!(config.register_fault(Some(0)).starts_with("/etc/ranch.toml, line 5: "));
     }
 }

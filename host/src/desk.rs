@@ -131,29 +131,28 @@ impl Desk {
             None => desk.format()?,
         }
         let (now, table) = (clock::now(), clock::of_table(&desk.table));
-        match clock::jump(now, table).filter(|_| !clock_is_right).or_else(|| clock::lag(now, table)) {
-            Some(wrong) => return Err(wrong),
-            None => desk.move_clock(now).map_err(|Ended(why)| format!("the core: {why}"))?,
+        if let Some(wrong) = clock::jump(now, table).filter(|_| !clock_is_right).or_else(|| clock::lag(now, table)) {
+            return Err(wrong);
         }
+        let changed = first_call(config, &mut desk.core, now)?;
+        desk.lay(&changed).map_err(|Ended(why)| config.core.fault(why))?;
         desk.keep()?;
         Ok(desk)
     }
 
     fn load(&mut self, table: Vec<u8>) -> Result<(), String> {
-        match self.core.load(&table).map_err(|Ended(why)| format!("the core: {why}"))? {
-            0 => {
-                self.table = table;
-                Ok(())
-            }
-            refusal => Err(table_fault(&self.store, refusal)),
+        match self.core.load(&table).map_err(told)? {
+            0 => self.table = table,
+            refusal => return Err(table_fault(&self.store, refusal)),
         }
+        Ok(())
     }
 
     fn format(&mut self) -> Result<(), String> {
-        match self.core.format(TABLE, clock::now()).map_err(|Ended(why)| format!("the core: {why}"))? {
+        match self.core.format(TABLE, clock::now()).map_err(told)? {
             (0, changed) => {
                 self.table = vec![0; TABLE];
-                self.lay(&changed).map_err(|Ended(why)| format!("the core: {why}"))
+                self.lay(&changed).map_err(told)
             }
             (refusal, _) => Err(format!("the core makes no table (refusal {refusal})")),
         }
@@ -162,7 +161,7 @@ impl Desk {
     /// Starts the core anew with the table that is stored; what was not stored is undone.
     pub fn recover(&mut self) -> Result<(), String> {
         self.core = Core::start(&self.folder).map_err(|Ended(why)| format!("the core cannot be started: {why}"))?;
-        self.core.register(&self.register).map_err(|Ended(why)| format!("the core: {why}"))?;
+        self.core.register(&self.register).map_err(told)?;
         self.unstored.clear();
         let table = self.store.table()?.ok_or("the table is gone from the database")?;
         self.load(table)
@@ -197,16 +196,6 @@ impl Desk {
     fn time(&self) -> Result<u64, Fault> {
         let now = clock::now();
         clock::jump(now, clock::of_table(&self.table)).map_or(Ok(now), |wrong| Err(Fault::Stop(wrong)))
-    }
-
-    /// The first call, for a path that is none: it moves the table's clock, and shows that core, table and register go together.
-    fn move_clock(&mut self, time: u64) -> Result<(), Ended> {
-        let request = Request { post: false, target: NOWHERE.as_bytes(), body: b"", cookie: b"" };
-        let answer = self.core.answer(&request, time, false)?;
-        match answer.refusal {
-            0 => self.lay(&answer.changed),
-            refusal => Err(Ended(format!("it refuses a plain call with {refusal}"))),
-        }
     }
 
     pub fn finish(&mut self, serial: u32, ok: bool) -> Result<Outcome, Fault> {
@@ -295,31 +284,50 @@ impl Desk {
     }
 }
 
+fn told(Ended(why): Ended) -> String {
+    format!("the core: {why}")
+}
+
 /// The core, started, with the register of this configuration.
 pub fn started(config: &Config) -> Result<Core, String> {
     let mut core = Core::start(&config.core.path).map_err(|Ended(why)| config.core.fault(format!("the core cannot be started: {why}")))?;
-    match core.register(&config.register()).map_err(|Ended(why)| config.core.fault(format!("the core: {why}")))? {
+    match core.register(&config.register()).map_err(|Ended(why)| config.core.fault(why))? {
         (0, _) => Ok(core),
-        (_, block) => Err(config.register_fault(block)),
+        (_, block) => Err(config.register_fault(Some(block))),
     }
 }
 
-/// What there is to say of the table of a configuration, without a change to it.
-pub fn check_table(config: &Config, core: &mut Core) -> Result<String, String> {
-    if !Store::exists(&config.data.path) {
-        return Ok("all is well; there is no table yet, the first start makes one".into());
+/// The first call, for a path that is none: it moves the table's clock, and shows that core, register and table go together.
+fn first_call(config: &Config, core: &mut Core, time: u64) -> Result<Vec<Changed>, String> {
+    let request = Request { post: false, target: NOWHERE.as_bytes(), body: b"", cookie: b"" };
+    let answer = core.answer(&request, time, false).map_err(|Ended(why)| config.core.fault(why))?;
+    match answer.refusal {
+        0 => Ok(answer.changed),
+        3 => Err(config.register_fault(None)),
+        refusal => Err(format!("the core refuses a plain call (refusal {refusal})")),
     }
-    let store = Store::open(&config.data.path)?;
-    let table = match store.table()? {
-        Some(table) => table,
-        None => return Ok("all is well; there is no table yet, the first start makes one".into()),
-    };
-    match core.load(&table).map_err(|Ended(why)| config.core.fault(why))? {
-        0 => {}
-        refusal => return Err(table_fault(&store, refusal)),
+}
+
+/// What there is to say of core, register and table of a configuration. The calls that show it change nothing that is stored.
+pub fn check(config: &Config) -> Result<&'static str, String> {
+    let mut core = started(config)?;
+    let (now, ended) = (clock::now(), |Ended(why)| config.core.fault(why));
+    let store = Store::exists(&config.data.path).then(|| Store::open(&config.data.path)).transpose()?;
+    let table = store.as_ref().map(Store::table).transpose()?.flatten();
+    if let (Some(store), Some(table)) = (&store, &table) {
+        match core.load(table).map_err(ended)? {
+            0 => {}
+            refusal => return Err(table_fault(store, refusal)),
+        }
+        let table = clock::of_table(table);
+        if let Some(wrong) = clock::jump(now, table).or_else(|| clock::lag(now, table)) {
+            return Err(wrong);
+        }
+    } else {
+        core.format(TABLE, now).map_err(ended)?;
     }
-    let (now, table) = (clock::now(), clock::of_table(&table));
-    clock::jump(now, table).or_else(|| clock::lag(now, table)).map_or(Ok("all is well".into()), Err)
+    first_call(config, &mut core, now)?;
+    Ok(if table.is_some() { "all is well" } else { "all is well; there is no table yet, the first start makes one" })
 }
 
 /// What to say where the core refuses the table of a database.

@@ -5,21 +5,21 @@ use crate::routes::Front;
 use hyper::server::conn::Http;
 use hyper::service::service_fn;
 use std::net::{IpAddr, SocketAddr};
-use std::sync::Arc;
+use std::sync::{Arc, Mutex, PoisonError};
 use std::time::Duration;
 use tokio::io::{AsyncRead, AsyncWrite};
 use tokio::net::{TcpListener, TcpStream};
 use tokio::sync::{watch, OwnedSemaphorePermit, Semaphore};
-use tokio::time::{sleep, timeout};
+use tokio::time::{sleep, sleep_until, timeout, Instant};
 use tokio_rustls::TlsAcceptor;
 
-/// Connections at a time. Beyond it the next waits until one ends, which it does after `LIFE` at the latest.
+/// Connections at a time. Beyond it the next waits until one ends, which it does when nothing is asked on it for the time of `IDLE`.
 const CONNECTIONS: u32 = 2_048;
 /// How long a TLS handshake may take, and a request's head.
 const HANDSHAKE: Duration = Duration::from_secs(10);
 const HEAD: Duration = Duration::from_secs(10);
-/// How long a connection takes further requests, and how long the last one then has.
-const LIFE: Duration = Duration::from_secs(30);
+/// How long a connection waits for its next request, and how long what is under way has when the connection is to end.
+const IDLE: Duration = Duration::from_secs(30);
 const LAST: Duration = Duration::from_secs(15);
 /// The longest head. A target that is too long is told so as long as it fits in here.
 const HEAD_LONGEST: usize = 32_768;
@@ -79,14 +79,25 @@ async fn requests<S>(stream: S, peer: SocketAddr, front: Arc<Front>, mut stop: w
 where
     S: AsyncRead + AsyncWrite + Unpin + Send + 'static,
 {
-    let service = service_fn(move |request| front.clone().handle(canonical(peer.ip()), request));
+    let asked = Arc::new(Mutex::new(Instant::now()));
+    let asks = asked.clone();
+    let service = service_fn(move |request| {
+        *asks.lock().unwrap_or_else(PoisonError::into_inner) = Instant::now();
+        front.clone().handle(canonical(peer.ip()), request)
+    });
     let connection =
         Http::new().http1_only(true).http1_header_read_timeout(HEAD).max_buf_size(HEAD_LONGEST).serve_connection(stream, service);
     tokio::pin!(connection);
-    tokio::select! {
-        _ = connection.as_mut() => return,
-        _ = sleep(LIFE) => {}
-        _ = stop.changed() => {}
+    loop {
+        let idle = *asked.lock().unwrap_or_else(PoisonError::into_inner) + IDLE;
+        if idle <= Instant::now() {
+            break;
+        }
+        tokio::select! {
+            _ = connection.as_mut() => return,
+            _ = sleep_until(idle) => {}
+            _ = stop.changed() => break,
+        }
     }
     connection.as_mut().graceful_shutdown();
     let _ = timeout(LAST, connection).await;

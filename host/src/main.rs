@@ -133,7 +133,6 @@ fn check(config: &Config) -> Result<(), String> {
     config.tls.as_ref().map(tls::server).transpose()?;
     tls::trusted(config)?;
     users::read(&config.users.path)?;
-    let mut core = desk::started(config)?;
-    println!("{}", desk::check_table(config, &mut core)?);
+    println!("{}", desk::check(config)?);
     Ok(())
 }

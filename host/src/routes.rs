@@ -8,7 +8,8 @@ use crate::page::{self, Language};
 use crate::queue::{Full, Queue};
 use crate::reply::{Replies, COOKIE};
 use hyper::body::HttpBody;
-use hyper::{header, Body, HeaderMap, Method, Request, Response};
+use hyper::header::{self, HeaderValue};
+use hyper::{Body, HeaderMap, Method, Request, Response};
 use std::convert::Infallible;
 use std::net::IpAddr;
 use std::sync::Arc;
@@ -69,10 +70,8 @@ impl Front {
             Err(Here::Status(status)) => {
                 told.line(status);
                 let mut response = self.replies.own(status, None, language);
-                if status == 408 || status == 413 {
-                    // What is left of the body is not read.
-                    response.headers_mut().insert(header::CONNECTION, header::HeaderValue::from_static("close"));
-                }
+                // The body, or what is left of it, is not read.
+                response.headers_mut().insert(header::CONNECTION, HeaderValue::from_static("close"));
                 response
             }
         };
