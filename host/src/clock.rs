@@ -21,8 +21,8 @@ pub fn of_table(table: &[u8]) -> u64 {
 pub fn jump(now: u64, table: u64) -> Option<String> {
     (now > table.saturating_add(DAY)).then(|| {
         format!(
-            "this machine's clock is {} beyond the table's, where the last call left it. If the clock is right, start once with --clock-is-right; \
-             if not, set it: a time ahead would stop all expiry until it is reached",
+            "this machine's clock is {} beyond the table's, where the last call left it. If the clock is right, say so by \
+             `pyhtirso clock-is-right` and start again; if not, set it: a time ahead would stop all expiry until it is reached",
             span(now - table)
         )
     })

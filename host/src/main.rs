@@ -54,13 +54,15 @@ enum Command {
     Serve {
         #[arg(long, value_name = "FILE")]
         config: PathBuf,
-        /// Lets a clock through that is more than a day beyond the table's.
-        #[arg(long)]
-        clock_is_right: bool,
     },
     /// Asks for a user's password and stores its hash.
     User {
         name: String,
+        #[arg(long, value_name = "FILE")]
+        config: PathBuf,
+    },
+    /// Takes this machine's clock for right, where it is more than a day beyond the table's. The server must be stopped.
+    ClockIsRight {
         #[arg(long, value_name = "FILE")]
         config: PathBuf,
     },
@@ -73,8 +75,9 @@ enum Command {
 
 fn main() -> ExitCode {
     let done = match Arguments::parse().command {
-        Command::Serve { config, clock_is_right } => config::read(&config).and_then(|config| serve(&config, clock_is_right)),
+        Command::Serve { config } => config::read(&config).and_then(|config| serve(&config)),
         Command::User { name, config } => config::read(&config).and_then(|config| user(&config, &name)),
+        Command::ClockIsRight { config } => config::read(&config).and_then(|config| clock_is_right(&config)),
         Command::Check { config } => config::read(&config).and_then(|config| check(&config)),
     };
     match done {
@@ -86,12 +89,12 @@ fn main() -> ExitCode {
     }
 }
 
-fn serve(config: &Config, clock_is_right: bool) -> Result<(), String> {
+fn serve(config: &Config) -> Result<(), String> {
     process::prepare()?;
     let tls = config.tls.as_ref().map(tls::server).transpose()?.map(TlsAcceptor::from);
     let outward = Outward::new(config)?;
     users::read(&config.users.path)?;
-    let desk = Desk::open(config, clock_is_right)?;
+    let desk = Desk::open(config, false)?;
     let queue = Queue::start(desk, process::stopped).map_err(|error| error.to_string())?;
     let replies = Replies { policy: reply::content_policy(&config.panels) };
     let front = Arc::new(Front { queue, outward, replies, forwarded_from: config.forwarded_from.clone() });
@@ -126,6 +129,13 @@ fn user(config: &Config, name: &str) -> Result<(), String> {
     let password = process::ask_password(name)?;
     users::store(&config.users.path, name, &password)?;
     println!("{name} is stored in {}", config.users.path.display());
+    Ok(())
+}
+
+fn clock_is_right(config: &Config) -> Result<(), String> {
+    process::prepare()?;
+    Desk::open(config, true)?;
+    println!("the table's clock is this machine's");
     Ok(())
 }
 

@@ -141,6 +141,15 @@ class Crowds(unittest.TestCase):
         for connection in held:
             connection.close()
 
+    def test_who_sends_nothing_or_slowly_is_cut(self):
+        idle, head, body = held = [self.world.raw(timeout=120) for _ in range(3)]
+        head.sendall(b'GET /cas/lo')
+        body.sendall(b'POST /cas/login HTTP/1.1\r\nContent-Length: 100\r\n\r\nusername=')
+        self.assertEqual((head.recv(100), idle.recv(100)), (b'', b''))
+        self.assertTrue(body.recv(100).startswith(b'HTTP/1.1 408 '))
+        for connection in held:
+            connection.close()
+
 
 @unittest.skipUnless(os.geteuid() == 0, 'a small disk can be mounted by root only')
 class FullDisk(unittest.TestCase):

@@ -440,20 +440,19 @@ class Starting(unittest.TestCase):
         self.set_clock(int(time.time()) - 3 * 86_400)
         for command in 'check', 'serve':
             status, said = self.world.run(command)
-            self.assertEqual((status, '3 days beyond the table' in said, '--clock-is-right' in said), (78, True, True), said)
-        self.world.start('--clock-is-right')
-        self.assertEqual(self.browser.sign_in('ann').status, 200)
-        self.world.stop()
-        self.browser.close()
+            self.assertEqual((status, '3 days beyond the table' in said, 'pyhtirso clock-is-right' in said), (78, True, True), said)
+        self.assertEqual(self.world.run('clock-is-right'), (0, "the table's clock is this machine's\n"))
         self.world.start()
+        self.assertEqual(self.browser.sign_in('ann').status, 200)
         self.world.stop()
         with self.database() as database:
             database.execute('DELETE FROM block')
         self.world.start()
         self.world.stop()
         self.set_clock(int(time.time()) + 366 * 86_400)
-        status, said = self.world.run('serve', '--clock-is-right')
-        self.assertEqual((status, "beyond this machine's" in said), (78, True), said)
+        for command in 'check', 'serve', 'clock-is-right':
+            status, said = self.world.run(command)
+            self.assertEqual((status, "beyond this machine's" in said), (78, True), said)
 
     def test_wrong_configurations_are_told_with_their_line(self):
         good = self.world.config.read_text()

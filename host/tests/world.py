@@ -225,10 +225,10 @@ class World:
         done = subprocess.run([PROGRAM, *words, '--config', self.config], capture_output=True, text=True, timeout=120)
         return done.returncode, done.stdout + done.stderr
 
-    def start(self, *words):
+    def start(self):
         before = self.log.read_text().count('listening on') if self.log.exists() else 0
         with open(self.log, 'a') as log:
-            self.process = subprocess.Popen([PROGRAM, 'serve', '--config', self.config, *words], stderr=log, stdin=subprocess.DEVNULL)
+            self.process = subprocess.Popen([PROGRAM, 'serve', '--config', self.config], stderr=log, stdin=subprocess.DEVNULL)
         while self.log.read_text().count('listening on') == before:
             assert self.process.poll() is None, self.log.read_text()
             time.sleep(0.02)
