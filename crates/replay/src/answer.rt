@@ -1,12 +1,10 @@
 // The frame of an answer: its fields and texts read, the call made on the bytes that they name.
 use super::Held;
 use super::cut;
-use super::frame::part;
 use super::frame::read_after;
 use super::frame::read_byte;
 use super::frame::read_long;
 use super::frame::read_number;
-use super::frame::within;
 use super::line::say_outcome;
 use protocol::Method;
 
@@ -65,10 +63,10 @@ pub fn answer(held: Held, table: &mut [u8], register: &[u8]) -> Held {
     if 65536 < ends.random {
         return cut();
     }
-    let n = within(held.table, table);
+    let n = lent::within(held.table, table);
     answer_texts(
         &mut table[..n],
-        part(register, 0, held.register),
+        lent::part(register, 0, held.register),
         asked,
         ends,
         &texts,
@@ -79,16 +77,16 @@ pub fn answer(held: Held, table: &mut [u8], register: &[u8]) -> Held {
 fn answer_texts(table: &mut [u8], register: &[u8], asked: Asked, ends: Ends, texts: &[u8]) {
     let mut out = [0xEEu8; 16384];
     let mut cookie_out = [0xDDu8; 4096];
-    let o = within(asked.out, &out);
-    let c = within(asked.cookie_out, &cookie_out);
+    let o = lent::within(asked.out, &out);
+    let c = lent::within(asked.cookie_out, &cookie_out);
     answer_call(
         table,
         register,
         asked,
-        part(texts, 0, ends.target),
-        part(texts, ends.target, ends.body),
-        part(texts, ends.body, ends.cookie),
-        part(texts, ends.cookie, ends.random),
+        lent::part(texts, 0, ends.target),
+        lent::part(texts, ends.target, ends.body),
+        lent::part(texts, ends.body, ends.cookie),
+        lent::part(texts, ends.cookie, ends.random),
         &mut out[..o],
         &mut cookie_out[..c],
     );

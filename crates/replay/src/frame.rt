@@ -1,23 +1,8 @@
-// The fields of a frame, read from standard input, and the bytes of a lent buffer set before a call.
+// The fields of a frame, read from standard input.
 ghost use Prim.Native.Nat.{_+_, _≤_, _<_};
-ghost use Rattle.io.specs.Counts.{Counts};
 
 // What a reader answers where the input ends within the field, or the field is longer than its buffer.
 pub const CUT: u64 = 4294967296;
-
-// The smaller of n and the number of buf's bytes.
-pub fn within(n: u64, buf: &[u8]) -> usize
-    ensures { λ r. ⌜ Counts r (now (buf .entry)) ⌝ }
-    ensures { λ r. ⌜ r ≤ n ⌝ }
-{
-    let most = buf.len();
-    if n < most as u64 { n as usize } else { most }
-}
-
-// Has buf fewer bytes than n?
-pub fn lacks(buf: &[u8], n: u64) -> bool {
-    (buf.len() as u64) < n
-}
 
 pub fn wide(x: u8) -> u64
     ensures { λ r. ⌜ r < 256 ⌝ }
@@ -63,10 +48,10 @@ pub fn read_bytes(buf: &mut [u8]) -> u64
     ensures { λ r. ⌜ r ≤ 4294967296 ⌝ }
 {
     let n = read_number();
-    if lacks(buf, n) {
+    if lent::lacks(buf, n) {
         return CUT;
     }
-    let end = within(n, buf);
+    let end = lent::within(n, buf);
     let got = io::read_full(0, &mut buf[..end]);
     if got < end {
         return CUT;
@@ -79,24 +64,9 @@ pub fn read_after(buf: &mut [u8], from: u64) -> u64
     requires { ⌜ from ≤ 17179869184 ⌝ }
     ensures { λ r. ⌜ r ≤ from + 4294967296 ⌝ }
 {
-    if lacks(buf, from) {
+    if lent::lacks(buf, from) {
         return from;
     }
-    let at = within(from, buf);
+    let at = lent::within(from, buf);
     from + read_bytes(&mut buf[at..])
-}
-
-// The bytes of s from one place to another, as far as they go.
-pub fn part<'a>(s: &'a [u8], from: u64, end: u64) -> &'a [u8] {
-    let to = within(end, s);
-    let at = within(from, &s[..to]);
-    &s[at..to]
-}
-
-pub fn fill(buf: &mut [u8], v: u8) {
-    let mut i = 0;
-    while i < buf.len() {
-        buf[i] = v;
-        i += 1;
-    }
 }

@@ -5,9 +5,7 @@ use protocol::Outcome;
 use protocol::Visit;
 ghost use Prim.Native.Nat.{_≤_, _<_, _+_};
 ghost use lib.ListN.{length};
-use super::frame::part;
 use super::frame::wide;
-use super::frame::within;
 
 // The house check's value worked over a buffer of any length.
 fn sum(s: &[u8]) -> u64 {
@@ -50,7 +48,7 @@ fn say_digits(bytes: &[u8])
 {
     let mut digits = [0u8; 512];
     let next = text::put_hex(&mut digits, 0, bytes);
-    let n = within(next as u64, &digits);
+    let n = lent::within(next as u64, &digits);
     io::write_all(1, &digits[..n]);
 }
 
@@ -72,7 +70,7 @@ fn say_none() {
 // Bytes up to a length, in lowercase hex; `-` for none.
 fn say_bytes(s: &[u8], length: usize) {
     say_space();
-    let n = within(length as u64, s);
+    let n = lent::within(length as u64, s);
     if n == 0 {
         return say_none();
     }
@@ -143,7 +141,7 @@ pub fn say_outcome(letter: u8, o: Outcome, out: &[u8], cookie: &[u8], table: &[u
 
 // Finish gives no cookie.
 pub fn say_finish(o: Outcome, out: &[u8], table: &[u8]) {
-    say_outcome(b'N', o, out, part(out, 0, 0), table);
+    say_outcome(b'N', o, out, lent::part(out, 0, 0), table);
 }
 
 fn say_fields(o: Outcome) {

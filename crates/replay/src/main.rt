@@ -21,15 +21,11 @@ mod visit;
 
 use answer::answer;
 use frame::CUT;
-use frame::fill;
-use frame::lacks;
-use frame::part;
 use frame::read_byte;
 use frame::read_bytes;
 use frame::read_long;
 use frame::read_number;
 use frame::whole;
-use frame::within;
 use line::say_finish;
 use line::say_form;
 use line::say_table;
@@ -119,7 +115,7 @@ fn step_on_table(letter: u8, held: Held, table: &mut [u8]) -> Held {
 
 fn take_register(held: Held, register: &mut [u8]) -> Held {
     let n = read_bytes(register);
-    if lacks(register, n) {
+    if lent::lacks(register, n) {
         return cut();
     }
     Held {
@@ -133,11 +129,11 @@ fn poke(held: Held, table: &mut [u8]) -> Held {
     let mut bytes = [0u8; 65536];
     let at = read_number();
     let n = read_bytes(&mut bytes);
-    let size = within(held.table, table);
+    let size = lent::within(held.table, table);
     if (size as u64) < at + n {
         return cut();
     }
-    let end = within(n, &bytes);
+    let end = lent::within(n, &bytes);
     block::copy_at(table, at as usize, &bytes[..end]);
     held
 }
@@ -147,10 +143,10 @@ fn format(held: Held, table: &mut [u8]) -> Held {
     let v = read_byte();
     let low = read_number();
     let high = read_number();
-    if (high == CUT) | lacks(table, size) {
+    if (high == CUT) | lent::lacks(table, size) {
         return cut();
     }
-    let n = within(size, table);
+    let n = lent::within(size, table);
     format_call(&mut table[..n], (v % 256) as u8, whole(low, high));
     Held {
         table: size,
@@ -160,13 +156,13 @@ fn format(held: Held, table: &mut [u8]) -> Held {
 }
 
 fn format_call(table: &mut [u8], v: u8, time: u64) {
-    fill(table, v);
+    lent::fill(table, v);
     let refusal = signon::format(table, time);
     say_table(b'F', refusal, table);
 }
 
 fn check(held: Held, table: &[u8]) -> Held {
-    check_call(part(table, 0, held.table));
+    check_call(lent::part(table, 0, held.table));
     held
 }
 
@@ -186,15 +182,15 @@ fn read_form(held: Held) -> Held {
     if (4096 < username) | (4096 < password) {
         return cut();
     }
-    read_form_sized(part(&body, 0, n), username, password);
+    read_form_sized(lent::part(&body, 0, n), username, password);
     held
 }
 
 fn read_form_sized(body: &[u8], username_size: u64, password_size: u64) {
     let mut username = [0xCCu8; 4096];
     let mut password = [0xBBu8; 4096];
-    let u = within(username_size, &username);
-    let p = within(password_size, &password);
+    let u = lent::within(username_size, &username);
+    let p = lent::within(password_size, &password);
     read_form_call(body, &mut username[..u], &mut password[..p]);
 }
 
@@ -211,14 +207,14 @@ fn finish(held: Held, table: &mut [u8]) -> Held {
     if 16384 < size {
         return cut();
     }
-    let n = within(held.table, table);
+    let n = lent::within(held.table, table);
     finish_sized(&mut table[..n], (serial % CUT) as u32, outcome, time, size);
     held
 }
 
 fn finish_sized(table: &mut [u8], serial: u32, outcome: bool, time: u64, size: u64) {
     let mut out = [0xEEu8; 16384];
-    let n = within(size, &out);
+    let n = lent::within(size, &out);
     finish_call(table, serial, outcome, time, &mut out[..n]);
 }
 

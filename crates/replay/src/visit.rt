@@ -2,11 +2,9 @@
 use super::Held;
 use super::cut;
 use super::frame::CUT;
-use super::frame::part;
 use super::frame::read_after;
 use super::frame::read_long;
 use super::frame::read_number;
-use super::frame::within;
 use super::line::say_visit;
 
 pub fn visit(held: Held, table: &[u8]) -> Held {
@@ -23,11 +21,11 @@ pub fn visit(held: Held, table: &[u8]) -> Held {
         return cut();
     }
     visit_sized(
-        part(table, 0, held.table),
-        part(&texts, 0, cookie),
+        lent::part(table, 0, held.table),
+        lent::part(&texts, 0, cookie),
         (number % CUT) as u32,
         time,
-        part(&texts, cookie, random),
+        lent::part(&texts, cookie, random),
         size,
     );
     held
@@ -35,7 +33,7 @@ pub fn visit(held: Held, table: &[u8]) -> Held {
 
 fn visit_sized(table: &[u8], cookie: &[u8], number: u32, time: u64, random: &[u8], size: u64) {
     let mut out = [0xEEu8; 16384];
-    let n = within(size, &out);
+    let n = lent::within(size, &out);
     visit_call(table, cookie, number, time, random, &mut out[..n]);
 }
 

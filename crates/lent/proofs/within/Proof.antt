@@ -6,8 +6,8 @@ use native.Mathlib.Omega.{arith}
 use lib.ListN.{length}
 use lib.Seq.{length-take-le}
 use Rattle.io.specs.Counts.{Counts}
-use Rattle.replay.proofs.frame.within.Statement.{statement}
-use Rattle.replay.proofs.frame.within.Tie as tie
+use Rattle.lent.proofs.within.Statement.{statement}
+use Rattle.lent.proofs.within.Tie as tie
 
 counted : (n : ℕ) (s : List ℕ) → n ≤ length s → Counts n s
 counted n s h = (h, sym (length-take-le n s h))

@@ -1,0 +1,2 @@
+-- What a call tells of its table.
+pub mod Laws

@@ -1,0 +1,16 @@
+-- What is told is told against the table that was kept.
+use borrow.Author.Needs.{needs}
+use Rattle.pipe.proofs.Laws.{told-call}
+use Rattle.pipe.proofs.answer_frame.answer_told.Statement.{statement}
+use Rattle.pipe.proofs.answer_frame.answer_told.Tie as tie
+
+returns : tie.Need-returns
+returns c =
+    let called = c .before .before .before .before .before .before .before .before in
+    let kept = called .before .before .before in
+    told-call _ _ _ _ _ (kept .put-bytes .ensures) (c .before .before .before .front .ensures) (c .put-changed .ensures)
+
+pub answer-told-spec : {M : Type 1} → statement M
+answer-told-spec =
+    tie.close
+    (tie.spec (λ c κs. search needs) (λ c κs. search needs) (λ c κs. search needs) (λ c κs. search needs) (λ c. search needs) returns)
