@@ -49,9 +49,10 @@ impl Asked {
         !self.cookie.is_empty() && (self.is_sign_in() || !self.post && self.path() == "/cas/logout")
     }
 
+    /// The login ticket of a sign-in's form, read as the core reads it: the field's name stands as it is and not encoded.
     fn posted_ticket(&self) -> Option<Cow<'_, str>> {
-        let mut fields = form_urlencoded::parse(&self.body).filter(|(name, _)| self.is_sign_in() && name == "lt");
-        fields.next().map(|(_, ticket)| ticket)
+        let mut pieces = self.body.split(|byte| *byte == b'&').filter(|piece| self.is_sign_in() && piece.starts_with(b"lt="));
+        form_urlencoded::parse(pieces.next()?).next().map(|(_, ticket)| ticket)
     }
 }
 
@@ -276,7 +277,10 @@ impl Desk {
                 refusal => Err(Fault::Core(format!("it refuses its own table with {refusal}"))),
             };
         }
-        self.forms.spent(posted.as_deref());
+        // A malformed form spends nothing, and neither does a refused call.
+        if answer.refusal == 0 && answer.status != 400 {
+            self.forms.spent(posted.as_deref());
+        }
         if let Some(ticket) = ticket {
             self.forms.opened(asked.source, ticket, time);
         }
@@ -380,6 +384,7 @@ mod tests {
     #[test]
     fn the_posted_ticket_is_that_of_a_sign_in() {
         assert_eq!(asked(true, "/cas/login", "username=a&lt=LT%2D1", "").posted_ticket().as_deref(), Some("LT-1"));
+        assert_eq!(asked(true, "/cas/login", "%6ct=LT-1&nlt=LT-2&LT=LT-3", "").posted_ticket(), None);
         assert_eq!(asked(true, "/cas/proxy", "lt=LT-1", "").posted_ticket(), None);
     }
 

@@ -110,8 +110,9 @@ async fn listen(config: &Config, tls: Option<TlsAcceptor>, front: Arc<Front>) ->
     let (stop, stops) = watch::channel(false);
     let mut terminate = signal(SignalKind::terminate()).map_err(|error| error.to_string())?;
     let mut interrupt = signal(SignalKind::interrupt()).map_err(|error| error.to_string())?;
-    let ticking = front.clone();
-    tokio::spawn(async move { ticking.queue.tick().await });
+    let ticking = front.queue.clone();
+    tokio::spawn(async move { ticking.tick().await });
+    let outward = front.outward.clone();
     let serving = tokio::spawn(front::serve(listener, tls, front, stops));
     tokio::select! {
         _ = terminate.recv() => {}
@@ -121,6 +122,7 @@ async fn listen(config: &Config, tls: Option<TlsAcceptor>, front: Arc<Front>) ->
     // It is there to hear it.
     let _ = stop.send(true);
     let _ = serving.await;
+    outward.settle().await;
     log::line("stopped");
     Ok(())
 }

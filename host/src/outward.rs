@@ -17,7 +17,7 @@ use tokio_rustls::rustls::ClientConfig;
 /// How long a callback or a panel may take.
 const PATIENCE: Duration = Duration::from_secs(5);
 /// Panels that are told at the same time.
-const POSTS: usize = 16;
+const POSTS: u32 = 16;
 
 #[derive(Clone)]
 pub struct Outward {
@@ -31,7 +31,7 @@ impl Outward {
         let trust = ClientConfig::builder().with_safe_defaults().with_root_certificates(roots).with_no_client_auth();
         let connector = HttpsConnectorBuilder::new().with_tls_config(trust).https_or_http().enable_http1().build();
         let client = Client::builder().pool_max_idle_per_host(0).build(connector);
-        Ok(Outward { client, posts: Arc::new(Semaphore::new(POSTS)) })
+        Ok(Outward { client, posts: Arc::new(Semaphore::new(POSTS as usize)) })
     }
 
     /// Fetches a callback's URL: yes only after a good certificate and a 200.
@@ -61,6 +61,11 @@ impl Outward {
             Ok(response) => log::line(format_args!("sign-off told to {}: {}", told.service, response.status().as_u16())),
             Err(why) => log::line(format_args!("sign-off not told to {}: {why}", told.service)),
         }
+    }
+
+    /// Waits for the sign-offs that are under way, as long as one may take.
+    pub async fn settle(&self) {
+        let _ = timeout(PATIENCE, self.posts.acquire_many(POSTS)).await;
     }
 
     async fn sent(&self, request: hyper::http::Result<Request<Body>>) -> Result<Response<Body>, String> {

@@ -29,8 +29,19 @@ const BUSY: u64 = 5;
 /// Where CAS 3.0 clients ask, and where the core answers them.
 const ALIASES: [(&str, &str); 2] = [("/cas/p3/serviceValidate", "/cas/serviceValidate"), ("/cas/p3/proxyValidate", "/cas/proxyValidate")];
 /// The paths that may stand in the log. Any other may have a ticket in it.
-const PATHS: [&str; 8] = ["/", "/cas", "/cas/", "/cas/login", "/cas/logout", "/cas/validate", "/cas/serviceValidate", "/cas/proxyValidate"];
-const MORE_PATHS: [&str; 3] = ["/cas/proxy", page::STYLE.0, page::SCRIPT.0];
+const PATHS: [&str; 11] = [
+    "/",
+    "/cas",
+    "/cas/",
+    "/cas/login",
+    "/cas/logout",
+    "/cas/validate",
+    "/cas/serviceValidate",
+    "/cas/proxyValidate",
+    "/cas/proxy",
+    page::STYLE.0,
+    page::SCRIPT.0,
+];
 
 pub struct Front {
     pub queue: Queue,
@@ -199,7 +210,7 @@ fn method_word(method: &Method) -> &'static str {
 
 fn known_path(path: &str) -> &'static str {
     let aliases = ALIASES.iter().map(|(alias, _)| *alias);
-    PATHS.into_iter().chain(MORE_PATHS).chain(aliases).find(|known| *known == path).unwrap_or("-")
+    PATHS.into_iter().chain(aliases).find(|known| *known == path).unwrap_or("-")
 }
 
 fn language(headers: &HeaderMap) -> Language {

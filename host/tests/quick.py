@@ -314,6 +314,10 @@ class Limits(Ranch):
             self.assertTrue(0 < int(answer.headers['Retry-After']) <= 600)
         greedy.cookie = None
         self.assertEqual(Browser(self.world).get('login').status, 200)
+        # A form that the core does not spend stays open: malformed, or with the field's name encoded.
+        self.assertEqual(greedy.request('POST', '/cas/login', f'lt={forms[0].lt}&username=%').status, 400)
+        self.assertEqual(greedy.request('POST', '/cas/login', f'%6ct={forms[0].lt}').status, 429)
+        self.assertEqual(greedy.get('login').status, 429)
         wrong = greedy.post_login(username='ann', password='wrong', lt=forms[0].lt)
         self.assertEqual(wrong.status, 401)
         self.assertEqual(greedy.post_login(username='ann', password='wrong', lt=forms[0].lt).status, 429)
