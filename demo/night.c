@@ -382,7 +382,7 @@ static void a_byte_goes_bad(void)
     memcpy(cookie_before, cookie_out, COOKIE);
     ask("The gate panel", panel_itself, "/cas/serviceValidate?service=" GATE "&ticket=%s", pass);
     means(outcome[PYHTIRSO_REFUSAL] == 2 && pyhtirso_check(table, sizeof table) == 2,
-          "The server does not work on a damaged table; the check call gives the same number. (Theorem `noticed`: so for every byte.)");
+          "The server does not work on a damaged table; the check call gives the same number. (Theorems `check-damaged`, `answer-damaged`: so for every byte.)");
     means(!memcmp(table_before, table, sizeof table) && !memcmp(out_before, out, OUT) && !memcmp(cookie_before, cookie_out, COOKIE),
           "Nothing was changed: every byte of table, answer and cookie is as before. (Contract of `answer`: so for every refusal.)");
     *bad ^= 4;

@@ -61,6 +61,7 @@ static void keep(char kept[][80], int *n, int most, const char *at, const char *
 static bool make_request(void)
 {
     const char *service = services[any() % PANELS], *renew = one_in(4) ? "&renew=1" : "", *gateway = one_in(6) ? "&gateway" : "";
+    const char *user, *lt, *validator; /* each drawn by itself, so that a seed gives the same calls everywhere */
     bool post = one_in(3);
     int shown;
     body[0] = 0;
@@ -73,7 +74,9 @@ static bool make_request(void)
     case 2:
         post = true;
         snprintf(target, sizeof target, "/cas/login");
-        snprintf(body, sizeof body, "username=%s&password=x&lt=%s&service=%s", one_in(2) ? "ann" : "bo+b", pick(logins, n_logins), one_in(3) ? "" : service);
+        user = one_in(2) ? "ann" : "bo+b";
+        lt = pick(logins, n_logins);
+        snprintf(body, sizeof body, "username=%s&password=x&lt=%s&service=%s", user, lt, one_in(3) ? "" : service);
         break;
     case 3:
     case 4:
@@ -81,8 +84,9 @@ static bool make_request(void)
         shown = n_tickets ? (int)(n_tickets > 8 && !one_in(4) ? n_tickets - 1 - (int)(any() % 8) : (int)(any() % (uint64_t)n_tickets)) : -1;
         if (shown >= 0 && !one_in(6))
             service = services[service_of[shown]];
-        snprintf(target, sizeof target, "/cas/%s?service=%s&ticket=%s%s%s", one_in(3) ? "validate" : one_in(2) ? "serviceValidate" : "proxyValidate", service,
-                 shown >= 0 ? tickets[shown] : "ST-1-00", renew, one_in(2) ? "&pgtUrl=https://a.lan/cb" : "");
+        validator = one_in(3) ? "validate" : one_in(2) ? "serviceValidate" : "proxyValidate";
+        snprintf(target, sizeof target, "/cas/%s?service=%s&ticket=%s%s%s", validator, service, shown >= 0 ? tickets[shown] : "ST-1-00", renew,
+                 one_in(2) ? "&pgtUrl=https://a.lan/cb" : "");
         break;
     case 5:
         post = false;

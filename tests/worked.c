@@ -123,6 +123,7 @@ static bool says(uint64_t kind, uint64_t status, const char *text, const char *c
 static void lay_table_and_register(void)
 {
     uint8_t one[BLOCK] = { 0 };
+    uint64_t fault[PYHTIRSO_FAULT];
     expect("the check of E1", check_of(one) == 33292289);
     one[0] = 1;
     expect("the check of E2", check_of(one) == 66584578);
@@ -131,6 +132,10 @@ static void lay_table_and_register(void)
     expect("format", pyhtirso_format(table, sizeof table, START) == PYHTIRSO_ANSWERED && stores("0 1 2 3 4 5 6 7 8"));
     write_panel(panels, GATE, BACK);
     write_panel(panels + BLOCK, "https://lamp.lan/", "");
+    expect("the gate's block, as the library makes it",
+           pyhtirso_panel((const uint8_t *)GATE, strlen(GATE), (const uint8_t *)BACK, strlen(BACK), one, BLOCK) == PYHTIRSO_ANSWERED
+               && !memcmp(one, panels, BLOCK));
+    expect("the register is sound", pyhtirso_check_register(panels, sizeof panels, fault, PYHTIRSO_FAULT) && fault[PYHTIRSO_FAULT_REFUSAL] == PYHTIRSO_ANSWERED);
 }
 
 static void sign_in(void)

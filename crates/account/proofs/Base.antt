@@ -1,17 +1,16 @@
 -- Tests, choices, sums over lists, and what a ticket's text tells. Assumes nothing.
-use mathlib.Core.Path.{_≡_, refl, sym, ap, ap₂, _∙_}
+use mathlib.Core.Path.{_≡_, refl, sym, ap, _∙_}
 use mathlib.Core.Bool.{Bool, true, false, _&&_, _||_}
 use mathlib.Core.List.{List, [], _∷_, _++_, map}
 use Prim.Native.Nat.{ℕ, zero, suc, _+_, _^_, _≤_, _<_}
 use native.Mathlib.Omega.{arith}
 use native.Mathlib.Nat.{not-suc-le-zero, le-of-suc-le-suc}
-use borrow.Author.Tests.{eq-eqb, eqb-true}
+use borrow.Author.Tests.{ne-eqb}
 use lib.Dec.{eqb, lit<}
 use lib.ListN.{length, getD, set, take}
-use Rattle.protocol.specs.Bytes.{if, same, upTo, past, decimal, hex}
+use Rattle.protocol.specs.Bytes.{if, upTo, past, decimal, hex}
 use Rattle.protocol.specs.Tickets.{ticketText, secretLength}
 use Rattle.protocol.proofs.Names.{readDecimal, digits-read, digits-within, upTo-digits}
-use Rattle.protocol.proofs.Laws.{one-test}
 
 -- the two cases of a test, with the equation
 pub data Case (b : Bool) : Type 0 where
@@ -29,10 +28,9 @@ clash {b} t f = go b t f
     go true t f = let z : _≡_ {A = ℕ} 0 1 = cc in omega arith
     go false t f = let z : _≡_ {A = ℕ} 0 1 = cc in omega arith
 
--- a choice keeps what both sides keep
-pub fork : {A : Type 0} (P : A → Type 0) (b : Bool) {x y : A} → (b ≡ true → P x) → (b ≡ false → P y) → P (if b x y)
-fork P true f g = f refl
-fork P false f g = g refl
+-- a slot that was found
+pub some-slot : (k : ℕ) → 1 ≤ k → eqb k 0 ≡ false
+some-slot k h = ne-eqb k 0 (λ e. omega arith)
 
 pub if-same : {A : Type 0} (b : Bool) (x : A) → if b x x ≡ x
 if-same true x = refl
@@ -53,20 +51,6 @@ or-left false b e = absurd (clash {b = false} e refl)
 pub or-right : (a b : Bool) → b ≡ true → (a || b) ≡ true
 or-right true b e = refl
 or-right false b e = e
-
--- two texts that are the same pass for each other
-pub same-sym : (a b : List ℕ) → same a b ≡ same b a
-unfolding same
-same-sym [] [] = refl
-same-sym [] (y ∷ b) = refl
-same-sym (x ∷ a) [] = refl
-same-sym (x ∷ a) (y ∷ b) = ap₂ _&&_ (eqb-sym x y) (same-sym a b)
-  where
-    eqb-sym : (x y : ℕ) → eqb x y ≡ eqb y x
-    eqb-sym x y =
-        one-test (eqb x y) (eqb y x)
-        (λ e. eq-eqb y x (sym (eqb-true x y e)))
-        (λ e. eq-eqb x y (sym (eqb-true y x e)))
 
 -- a number that counts where a test holds, and sums
 abbrev pub when : Bool → ℕ → ℕ

@@ -1,5 +1,5 @@
 -- The notebook's own books: tickets issued and accepted, and each ticket's one right to a success answer. No table here. Assumes nothing.
-use mathlib.Core.Path.{_≡_, refl, ap₂}
+use mathlib.Core.Path.{_≡_, refl, sym, ap₂, _∙_}
 use mathlib.Core.Logic.{_⊎_, inl, inr, _≢_}
 use mathlib.Core.Bool.{Bool, true, false, _&&_}
 use mathlib.Core.List.{List, [], _∷_, map, List·Memᴰ, List·Memᴰ·cases-cons, List·Memᴰ·not-nil, List·Memᴰ·head, List·Memᴰ·tail, Memᴰ·map}
@@ -9,9 +9,10 @@ use borrow.Author.Tests.{eqb-true}
 use lib.Dec.{eqb}
 use Rattle.protocol.specs.Bytes.{if, same}
 use Rattle.protocol.specs.Tickets.{aWaiting}
-use Rattle.protocol.proofs.Laws.{both, same-eq}
+use Rattle.protocol.proofs.Laws.{both, same-eq, same-refl}
 use Rattle.account.specs.History.{Text}
-use Rattle.account.specs.Notebook.{Fate, held, accepted, burnt, ended, expired, spent, Line, isHeld, closeLine, raiseLine, isTicket, isTicketLine, isWaitingLine, tally, isAccepted, isBurnt, isEnded, isExpired}
+use Rattle.account.specs.Notebook.{Fate, held, accepted, burnt, ended, expired, spent, isTicket, cameTo}
+use Rattle.account.proofs.Ledger.{Line, isHeld, closeLine, raiseLine, isTicketLine, isWaitingLine, tally}
 use Rattle.account.proofs.Base.{Case, is, isnt, case, clash, untrue, when}
 use Rattle.account.proofs.Sim.{heft, total}
 
@@ -19,11 +20,7 @@ use Rattle.account.proofs.Sim.{heft, total}
 abbrev pub claim : Text → Line → ℕ
 claim k e = when (isTicket (e .kind) && same (e .name) k) 1 + when (eqb (e .kind) aWaiting && same (e .origin) k) 1
 
--- a ticket's one acceptance, as long as it is held
-abbrev pub turn : Text → Line → ℕ
-turn k e = when (isTicket (e .kind) && same (e .name) k) 1
-
--- each right, such as a claim or a turn, is held, owed just now (c) or used (wins), in all at most once; and there is none to a text that no line has
+-- each right, such as a claim, is held, owed just now (c) or used (wins), in all at most once; and there is none to a text that no line has
 pub record Owing (right : Text → Line → ℕ) (book : List Line) (wins c : Text → ℕ) : Type 0 where
   pub most : (k : Text) → total (right k) book + wins k + c k ≤ 1
   pub far : (k : Text) → ((e : Line) → List·Memᴰ e book → e .name ≢ k) → total (right k) book + wins k + c k ≡ 0
@@ -123,64 +120,90 @@ raise-less q k e = go (case (isHeld (e .fate) && q e)) (case (isHeld (e .fate)))
     go (is z) (isnt h) = rw (z, h) (omega arith)
     go (isnt z) c = rw z (omega arith)
 
-pub turn-pays : (F : Fate) (q : Line → Bool) → isHeld F ≡ false → (x : Line) → isHeld (x .fate) ≡ true → q x ≡ true → isTicket (x .kind) ≡ true → (k : Text)
-    → heft (turn k) (closeLine F q x) + just (x .name) k ≤ heft (turn k) x
-turn-pays F q hF x h z t k = rw (h, z, hF, t) (omega arith)
-
-pub turn-less : (q : Line → Bool) (k : Text) (e : Line) → heft (turn k) (raiseLine q e) ≤ heft (turn k) e
-turn-less q k e = go (case (isHeld (e .fate) && q e)) (case (isHeld (e .fate)))
-  where
-    go : Case (isHeld (e .fate) && q e) → Case (isHeld (e .fate)) → heft (turn k) (raiseLine q e) ≤ heft (turn k) e
-    go (is z) (is h) = rw (z, h) (omega arith)
-    go (is z) (isnt h) = rw (z, h) (omega arith)
-    go (isnt z) c = rw z (omega arith)
-
 pub raise-pays : (q : Line → Bool) (x : Line) → isHeld (x .fate) ≡ true → q x ≡ true → eqb (x .kind) aWaiting ≡ true → (k : Text)
     → heft (claim k) (raiseLine q x) + just (x .origin) k ≤ heft (claim k) x
 raise-pays q x h z w k = rw (h, z, w, h) (omega arith)
 
--- Counts
+-- Counts, of the tickets whose text passes a test f
 
-abbrev pub tick1 : (Fate → Bool) → Line → ℕ
-tick1 p e = if (isTicket (e .kind) && p (e .fate)) 1 0
+abbrev pub tick1 : (Text → Bool) → (Fate → Bool) → Line → ℕ
+tick1 f p e = if (isTicket (e .kind) && f (e .name) && p (e .fate)) 1 0
 
-pub tally-same : (p : Fate → Bool) (g : Line → Line) → ((e : Line) → tick1 p (g e) ≡ tick1 p e) → (l : List Line) → tally p (map g l) ≡ tally p l
+pub tally-same : (f : Text → Bool) (p : Fate → Bool) (g : Line → Line) → ((e : Line) → tick1 f p (g e) ≡ tick1 f p e) → (l : List Line) → tally f p (map g l) ≡ tally f p l
 unfolding tally
-tally-same p g h [] = refl
-tally-same p g h (e ∷ es) = ap₂ _+_ (h e) (tally-same p g h es)
+tally-same f p g h [] = refl
+tally-same f p g h (e ∷ es) = ap₂ _+_ (h e) (tally-same f p g h es)
 
-pub tally-plus : (p : Fate → Bool) (g : Line → Line) (f : Line → ℕ) → ((e : Line) → tick1 p (g e) ≡ tick1 p e + heft f e) → (l : List Line) → tally p (map g l) ≡ tally p l + total f l
+pub tally-plus : (f : Text → Bool) (p : Fate → Bool) (g : Line → Line) (k : Line → ℕ) → ((e : Line) → tick1 f p (g e) ≡ tick1 f p e + heft k e) → (l : List Line) → tally f p (map g l) ≡ tally f p l + total k l
 unfolding tally
-tally-plus p g f h [] = refl
-tally-plus p g f h (e ∷ es) = omega (arith, h e, tally-plus p g f h es)
+tally-plus f p g k h [] = refl
+tally-plus f p g k h (e ∷ es) = omega (arith, h e, tally-plus f p g k h es)
 
-held-fate : (f : Fate) → isHeld f ≡ true → isAccepted f ≡ false
-held-fate held z = refl
-held-fate accepted z = absurd (clash z refl)
-held-fate burnt z = refl
-held-fate ended z = refl
-held-fate expired z = refl
-held-fate spent z = refl
+-- no line has a text: none counts for it
+pub tally-none : (x : Text) (p : Fate → Bool) (l : List Line) → ((e : Line) → List·Memᴰ e l → e .name ≢ x) → tally (λ (y : Text). same y x) p l ≡ 0
+unfolding tally
+tally-none x p [] new = refl
+tally-none x p (e ∷ es) new =
+    rw (untrue (same (e .name) x) (λ z. new e (List·Memᴰ·head refl) (same-eq (e .name) x z)), and-no (isTicket (e .kind))) (omega (arith, tally-none x p es (λ a m. new a (List·Memᴰ·tail m))))
+  where
+    and-no : (b : Bool) → (b && false) ≡ false
+    and-no true = refl
+    and-no false = refl
 
 abbrev pub anyFate : Fate → Bool
 anyFate f = true
 
-pub close-all : (F : Fate) (q : Line → Bool) (e : Line) → tick1 anyFate (closeLine F q e) ≡ tick1 anyFate e
-close-all F q e = go (case (isHeld (e .fate) && q e))
+-- a line that is closed counts as before, but for the two fates
+closed-as : (f : Text → Bool) (p : Fate → Bool) (F : Fate) (q : Line → Bool) → ((x : Fate) → isHeld x ≡ true → p F ≡ p x) → (e : Line) → tick1 f p (closeLine F q e) ≡ tick1 f p e
+closed-as f p F q even e = go (case (isHeld (e .fate) && q e))
   where
-    go : Case (isHeld (e .fate) && q e) → tick1 anyFate (closeLine F q e) ≡ tick1 anyFate e
-    go (is z) = rw z
+    go : Case (isHeld (e .fate) && q e) → tick1 f p (closeLine F q e) ≡ tick1 f p e
+    go (is z) = rw (z, even (e .fate) (both (isHeld (e .fate)) (q e) z .0))
     go (isnt z) = rw z
 
-pub close-acc : (F : Fate) (q : Line → Bool) → isAccepted F ≡ false → (e : Line) → tick1 isAccepted (closeLine F q e) ≡ tick1 isAccepted e
-close-acc F q nF e = go (case (isHeld (e .fate) && q e))
+-- of a fate that it did not come to
+unlike-held : (G : Fate) → isHeld G ≡ false → (x : Fate) → isHeld x ≡ true → cameTo G x ≡ false
+unlike-held G n held z = go G n
   where
-    go : Case (isHeld (e .fate) && q e) → tick1 isAccepted (closeLine F q e) ≡ tick1 isAccepted e
-    go (is z) = rw (z, nF, held-fate (e .fate) (both (isHeld (e .fate)) (q e) z .0))
+    go : (G : Fate) → isHeld G ≡ false → cameTo G held ≡ false
+    go held n = absurd (clash {b = true} refl n)
+    go accepted n = refl
+    go burnt n = refl
+    go ended n = refl
+    go expired n = refl
+    go spent n = refl
+unlike-held G n accepted z = absurd (clash z refl)
+unlike-held G n burnt z = absurd (clash z refl)
+unlike-held G n ended z = absurd (clash z refl)
+unlike-held G n expired z = absurd (clash z refl)
+unlike-held G n spent z = absurd (clash z refl)
+
+pub close-all : (f : Text → Bool) (F : Fate) (q : Line → Bool) (e : Line) → tick1 f anyFate (closeLine F q e) ≡ tick1 f anyFate e
+close-all f F q e = closed-as f anyFate F q (λ x z. refl) e
+
+pub close-not : (f : Text → Bool) (G F : Fate) (q : Line → Bool) → isHeld G ≡ false → cameTo G F ≡ false → (e : Line) → tick1 f (cameTo G) (closeLine F q e) ≡ tick1 f (cameTo G) e
+close-not f G F q hG nF e = closed-as f (cameTo G) F q (λ x z. nF ∙ sym (unlike-held G hG x z)) e
+
+-- a line that is no ticket
+pub close-other : (f : Text → Bool) (F : Fate) (q : Line → Bool) → ((e : Line) → q e ≡ true → isTicket (e .kind) ≡ false) → (p : Fate → Bool) (e : Line) → tick1 f p (closeLine F q e) ≡ tick1 f p e
+close-other f F q other p e = go (case (isHeld (e .fate) && q e))
+  where
+    go : Case (isHeld (e .fate) && q e) → tick1 f p (closeLine F q e) ≡ tick1 f p e
+    go (is z) = rw (z, other e (both (isHeld (e .fate)) (q e) z .1))
     go (isnt z) = rw z
 
-pub close-accepted : (q : Line → Bool) (e : Line) → tick1 isAccepted (closeLine accepted q e) ≡ tick1 isAccepted e + heft (λ e. when (isTicket (e .kind) && q e) 1) e
-close-accepted q e = go (case (isHeld (e .fate))) (case (q e))
+pub raise-kind : (f : Text → Bool) (serial : ℕ) (p : Fate → Bool) (e : Line) → tick1 f p (raiseLine (isWaitingLine serial) e) ≡ tick1 f p e
+raise-kind f serial p e = go (case (isHeld (e .fate) && isWaitingLine serial e))
+  where
+    go : Case (isHeld (e .fate) && isWaitingLine serial e) → tick1 f p (raiseLine (isWaitingLine serial) e) ≡ tick1 f p e
+    go (is z) =
+        let w = both (isHeld (e .fate)) (isWaitingLine serial e) z .1 in
+        let k : e .kind ≡ 5 = eqb-true (e .kind) 5 (both (eqb (e .kind) aWaiting) (eqb (e .ref) serial) w .0) in
+        rw (z, k)
+    go (isnt z) = rw z
+
+pub close-accepted : (f : Text → Bool) (q : Line → Bool) (e : Line) → tick1 f (cameTo accepted) (closeLine accepted q e) ≡ tick1 f (cameTo accepted) e + heft (λ e. when (isTicket (e .kind) && f (e .name) && q e) 1) e
+close-accepted f q e = go (case (isHeld (e .fate))) (case (q e))
   where
     fix : (b : Bool) → if (b && true) 1 0 ≡ if (b && false) 1 0 + when (b && true) 1
     fix true = refl
@@ -190,20 +213,10 @@ close-accepted q e = go (case (isHeld (e .fate))) (case (q e))
     same-still true c = omega arith
     same-still false c = refl
 
-    go : Case (isHeld (e .fate)) → Case (q e) → tick1 isAccepted (closeLine accepted q e) ≡ tick1 isAccepted e + heft (λ e. when (isTicket (e .kind) && q e) 1) e
-    go (is h) (is z) = rw (h, z, held-fate (e .fate) h) (fix (isTicket (e .kind)))
-    go (is h) (isnt z) = rw (h, z) (same-still (isTicket (e .kind)) (isAccepted (e .fate)))
+    go : Case (isHeld (e .fate)) → Case (q e) → tick1 f (cameTo accepted) (closeLine accepted q e) ≡ tick1 f (cameTo accepted) e + heft (λ e. when (isTicket (e .kind) && f (e .name) && q e) 1) e
+    go (is h) (is z) = rw (h, z, unlike-held accepted refl (e .fate) h) (fix (isTicket (e .kind) && f (e .name)))
+    go (is h) (isnt z) = rw (h, z) (same-still (isTicket (e .kind) && f (e .name)) (cameTo accepted (e .fate)))
     go (isnt h) c = rw h (omega arith)
-
-pub raise-kind : (serial : ℕ) (p : Fate → Bool) (e : Line) → tick1 p (raiseLine (isWaitingLine serial) e) ≡ tick1 p e
-raise-kind serial p e = go (case (isHeld (e .fate) && isWaitingLine serial e))
-  where
-    go : Case (isHeld (e .fate) && isWaitingLine serial e) → tick1 p (raiseLine (isWaitingLine serial) e) ≡ tick1 p e
-    go (is z) =
-        let w = both (isHeld (e .fate)) (isWaitingLine serial e) z .1 in
-        let k : e .kind ≡ 5 = eqb-true (e .kind) 5 (both (eqb (e .kind) aWaiting) (eqb (e .ref) serial) w .0) in
-        rw (z, k)
-    go (isnt z) = rw z
 
 total-mono : (f k : Line → ℕ) → ((e : Line) → heft f e ≤ heft k e) → (l : List Line) → total f l ≤ total k l
 total-mono f k h [] = omega arith
@@ -217,56 +230,60 @@ total-at f x (e ∷ es) m = go (List·Memᴰ·cases-cons m) (total-at f x es)
     go (inl q) ih = rw q (omega arith)
     go (inr m) ih = omega (arith, ih m)
 
--- exactly one held ticket has the text of a held ticket
+-- exactly one held ticket has the text of a held ticket, and it counts where that text does
 pub just-one : (book : List Line) (wins : Text → ℕ) → Owing claim book wins nil → (ticket : Text) (x : Line) → List·Memᴰ x book → isHeld (x .fate) ≡ true → isTicketLine ticket x ≡ true
-    → total (λ e. when (isTicket (e .kind) && isTicketLine ticket e) 1) book ≡ 1
-just-one book wins o ticket x m h t =
+    → (f : Text → Bool) → total (λ e. when (isTicket (e .kind) && f (e .name) && isTicketLine ticket e) 1) book ≡ if (f ticket) 1 0
+just-one book wins o ticket x m h t f =
     let k = both (isTicket (x .kind)) (same (x .name) ticket) t .0 in
     let n = both (isTicket (x .kind)) (same (x .name) ticket) t .1 in
-    let a = total-mono (λ e. when (isTicket (e .kind) && isTicketLine ticket e) 1) (claim ticket) (λ e. le (isTicket (e .kind)) (same (e .name) ticket) (when (eqb (e .kind) aWaiting && same (e .origin) ticket) 1) (isHeld (e .fate))) book in
-    let b = total-at (λ e. when (isTicket (e .kind) && isTicketLine ticket e) 1) x book m in
-    let c : heft (λ e. when (isTicket (e .kind) && isTicketLine ticket e) 1) x ≡ 1 = rw (h, k, n) in
-    omega (arith, o .most ticket)
+    let a = total-mono (λ e. when (isTicket (e .kind) && f (e .name) && isTicketLine ticket e) 1) (λ e. if (f ticket) (claim ticket e) 0) less book in
+    let b = total-at (λ e. when (isTicket (e .kind) && f (e .name) && isTicketLine ticket e) 1) x book m in
+    let c : heft (λ e. when (isTicket (e .kind) && f (e .name) && isTicketLine ticket e) 1) x ≡ if (f ticket) 1 0 = rw (h, k, same-eq (x .name) ticket n, same-refl ticket) (when-if (f ticket)) in
+    within (f ticket) _ (total (claim ticket) book) (omega (arith, either (f ticket) book)) (omega (arith, o .most ticket)) (omega arith)
   where
-    le : (a b : Bool) (n : ℕ) (h : Bool) → when h (when (a && (a && b)) 1) ≤ when h (when (a && b) 1 + n)
-    le true b n true = omega arith
-    le false b n true = omega arith
-    le a b n false = omega arith
+    within : (b : Bool) (n c : ℕ) → n ≤ if b c 0 → c ≤ 1 → if b 1 0 ≤ n → n ≡ if b 1 0
+    within true n c x y z = omega arith
+    within false n c x y z = omega arith
 
--- tickets are never merely spent, as login tickets and waiting grants are
-abbrev pub isSpent : Fate → Bool
-isSpent held = false
-isSpent accepted = false
-isSpent burnt = false
-isSpent ended = false
-isSpent expired = false
-isSpent spent = true
+    when-if : (b : Bool) → when (b && true) 1 ≡ if b 1 0
+    when-if true = refl
+    when-if false = refl
 
-held-unspent : (f : Fate) → isHeld f ≡ true → isSpent f ≡ false
-held-unspent held z = refl
-held-unspent accepted z = refl
-held-unspent burnt z = refl
-held-unspent ended z = refl
-held-unspent expired z = refl
-held-unspent spent z = absurd (clash z refl)
+    either : (b : Bool) (l : List Line) → total (λ e. if b (claim ticket e) 0) l ≤ if b (total (claim ticket) l) 0
+    either b [] = none b
+      where
+        none : (b : Bool) → 0 ≤ if b 0 0
+        none true = omega arith
+        none false = omega arith
+    either true (e ∷ es) = omega (arith, either true es)
+    either false (e ∷ es) = omega (arith, either false es, zero (isHeld (e .fate)))
+      where
+        zero : (h : Bool) → when h 0 ≡ 0
+        zero true = refl
+        zero false = refl
 
-pub close-unspent : (F : Fate) (q : Line → Bool) → isSpent F ≡ false → (e : Line) → tick1 isSpent (closeLine F q e) ≡ tick1 isSpent e
-close-unspent F q nF e = go (case (isHeld (e .fate) && q e))
-  where
-    go : Case (isHeld (e .fate) && q e) → tick1 isSpent (closeLine F q e) ≡ tick1 isSpent e
-    go (is z) = rw (z, nF, held-unspent (e .fate) (both (isHeld (e .fate)) (q e) z .0))
-    go (isnt z) = rw z
+    less : (e : Line) → heft (λ e. when (isTicket (e .kind) && f (e .name) && isTicketLine ticket e) 1) e ≤ heft (λ e. if (f ticket) (claim ticket e) 0) e
+    less e = go (case (isTicketLine ticket e))
+      where
+        le : (b : Bool) (h : Bool) (n : ℕ) → when h (when (b && true) 1) ≤ when h (if b (1 + n) 0)
+        le true true n = omega arith
+        le false true n = omega arith
+        le b false n = omega arith
 
-pub close-other : (F : Fate) (q : Line → Bool) → ((e : Line) → q e ≡ true → isTicket (e .kind) ≡ false) → (p : Fate → Bool) (e : Line) → tick1 p (closeLine F q e) ≡ tick1 p e
-close-other F q other p e = go (case (isHeld (e .fate) && q e))
-  where
-    go : Case (isHeld (e .fate) && q e) → tick1 p (closeLine F q e) ≡ tick1 p e
-    go (is z) = rw (z, other e (both (isHeld (e .fate)) (q e) z .1))
-    go (isnt z) = rw z
+        none : (b h : Bool) (n : ℕ) → when h (when (b && false) 1) ≤ when h n
+        none true true n = omega arith
+        none false true n = omega arith
+        none b false n = omega arith
+
+        go : Case (isTicketLine ticket e) → heft (λ e. when (isTicket (e .kind) && f (e .name) && isTicketLine ticket e) 1) e ≤ heft (λ e. if (f ticket) (claim ticket e) 0) e
+        go (is z) =
+            let w = both (isTicket (e .kind)) (same (e .name) ticket) z in
+            rw (w .0, same-eq (e .name) ticket (w .1), same-refl ticket) (le (f ticket) (isHeld (e .fate)) _)
+        go (isnt z) = rw z (none (isTicket (e .kind) && f (e .name)) (isHeld (e .fate)) _)
 
 -- the fates of all tickets
 one-fate : (b : Bool) (f : Fate)
-    → if (b && true) 1 0 ≡ if (b && isAccepted f) 1 0 + if (b && isBurnt f) 1 0 + if (b && isEnded f) 1 0 + if (b && isExpired f) 1 0 + if (b && isHeld f) 1 0 + if (b && isSpent f) 1 0
+    → if (b && true) 1 0 ≡ if (b && cameTo accepted f) 1 0 + if (b && cameTo burnt f) 1 0 + if (b && cameTo ended f) 1 0 + if (b && cameTo expired f) 1 0 + if (b && isHeld f) 1 0 + if (b && cameTo spent f) 1 0
 one-fate false f = refl
 one-fate true held = refl
 one-fate true accepted = refl
@@ -275,15 +292,15 @@ one-fate true ended = refl
 one-fate true expired = refl
 one-fate true spent = refl
 
-pub fates : (l : List Line) → tally anyFate l ≡ tally isAccepted l + tally isBurnt l + tally isEnded l + tally isExpired l + tally isHeld l + tally isSpent l
+pub fates : (f : Text → Bool) (l : List Line) → tally f anyFate l ≡ tally f (cameTo accepted) l + tally f (cameTo burnt) l + tally f (cameTo ended) l + tally f (cameTo expired) l + tally f isHeld l + tally f (cameTo spent) l
 unfolding tally
-fates [] = refl
-fates (e ∷ es) = omega (arith, one-fate (isTicket (e .kind)) (e .fate), fates es)
+fates f [] = refl
+fates f (e ∷ es) = omega (arith, one-fate (isTicket (e .kind) && f (e .name)) (e .fate), fates f es)
 
-pub held-total : (l : List Line) → tally isHeld l ≡ total (λ e. when (isTicket (e .kind)) 1) l
+pub held-total : (f : Text → Bool) (l : List Line) → tally f isHeld l ≡ total (λ e. when (isTicket (e .kind) && f (e .name)) 1) l
 unfolding tally
-held-total [] = refl
-held-total (e ∷ es) = ap₂ _+_ (swap (isTicket (e .kind)) (isHeld (e .fate))) (held-total es)
+held-total f [] = refl
+held-total f (e ∷ es) = ap₂ _+_ (swap (isTicket (e .kind) && f (e .name)) (isHeld (e .fate))) (held-total f es)
   where
     swap : (a b : Bool) → if (a && b) 1 0 ≡ when b (when a 1)
     swap true true = refl

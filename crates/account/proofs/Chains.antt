@@ -10,7 +10,8 @@ use Rattle.protocol.specs.Records.{Rec}
 use Rattle.protocol.specs.Table.{recAt}
 use Rattle.protocol.specs.Steps.{chainFrom, chainOf, proxyParent}
 use Rattle.account.specs.History.{Text}
-use Rattle.account.specs.Notebook.{Notebook, isTicket}
+use Rattle.account.specs.Notebook.{isTicket}
+use Rattle.account.proofs.Ledger.{Notebook}
 use Rattle.account.proofs.Base.{Case, is, isnt, case}
 use Rattle.account.proofs.Sim.{Slot, on, lives, Above, Up, upOf, deep, Under, Sim}
 use Rattle.account.proofs.Edits.{alive-is, under-of}

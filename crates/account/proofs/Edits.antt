@@ -11,11 +11,14 @@ use borrow.Author.Tests.{eqb-true, lt-leb, ltb-true, lt-ltb, leb-true, leb-false
 use lib.ListN.{length, set, length-set}
 use lib.Seq.{getD-set-same, getD-set-other}
 use lib.Dec.{eqb, leb, ltb}
-use Rattle.protocol.specs.Bytes.{if, within}
+use Rattle.protocol.specs.Bytes.{if, same, within}
+use Rattle.protocol.specs.Tickets.{aLogin, aSession}
 use Rattle.protocol.specs.Records.{Rec, nameOf}
-use Rattle.protocol.proofs.Laws.{both}
+use Rattle.protocol.proofs.Laws.{both, fork}
 use Rattle.account.specs.History.{Text}
-use Rattle.account.specs.Notebook.{Fate, expired, Line, Notebook, isHeld, close, closeLine, closeAll, raise, raiseLine, enter, isTicket}
+use Rattle.account.specs.Reading.{Credentials, SignedOn}
+use Rattle.account.specs.Notebook.{Fate, ended, expired, spent, isTicket}
+use Rattle.account.proofs.Ledger.{Line, Notebook, isHeld, close, closeLine, closeAll, raise, raiseLine, enter, isLine, ofSession, Look, found, nothing, isFound, look, endOther, note}
 use Rattle.account.proofs.Base.{Case, is, isnt, case, clash, sum-set}
 use Rattle.account.proofs.Sim.{Slot, noSlot, on, alive, lives, weight, weigh, heft, total, Up, upOf, Under, Placed, login, session, below, Good, Before, Sim, good-move, Turn, stays, goes, never, through, sim-through}
 
@@ -299,3 +302,16 @@ module _ (L : Notebook) (A : List Slot) (n : ℕ) (S : Sim L A n) (d : ℕ) (le 
   sim-time =
       sim-through L d A A n S (closeLine expired (λ (e : Line). leb (e .expiry) d)) (λ e z. rw (z, z)) (close-name expired _) (close-ref expired _) refl time-turn
       (λ i l. S .good i (lived i l))
+
+-- a sign-on spends its login ticket, and ends a session or not
+change-keeps : (P : Notebook → Type 0) (z : Bool) (l : Look) (cookie user : Text) (b : Notebook) → P b → P (closeAll ended (ofSession cookie) b) → P (if z (endOther l cookie user b) b)
+change-keeps P true (found s) cookie user b k e = fork P (same (s .user) user) (λ z. k) (λ z. e)
+change-keeps P true nothing cookie user b k e = k
+change-keeps P false l cookie user b k e = k
+
+pub signed-keeps : (P : Notebook → Type 0) (cookie : Text) (c : Credentials) (b : Notebook)
+    → P (closeAll spent (isLine aLogin (c .lt)) b) → P (closeAll ended (ofSession cookie) (closeAll spent (isLine aLogin (c .lt)) b)) → P (note (SignedOn cookie c) b)
+unfolding note
+signed-keeps P cookie c b k e =
+    let s : Notebook = closeAll spent (isLine aLogin (c .lt)) b in
+    change-keeps P (c .given && isFound (look (isLine aLogin (c .lt)) (b .book))) (look (isLine aSession cookie) (s .book)) cookie (c .user) s k e

@@ -1,29 +1,29 @@
 -- One thing said beside one edit of the table: each keeps the table at the trail. Assumes nothing.
-use mathlib.Core.Path.{_≡_, refl, ap, _∙_}
+use mathlib.Core.Path.{_≡_, refl, sym, ap, _∙_}
 use mathlib.Core.Logic.{_≢_}
-use mathlib.Core.Bool.{Bool, true, false}
+use mathlib.Core.Bool.{Bool, true, false, _&&_, not}
 use mathlib.Core.List.{List, [], _∷_}
 use Prim.Native.Nat.{ℕ, zero, suc, _+_, _≤_, _<_}
 use native.Mathlib.Omega.{arith}
 use borrow.Author.Tests.{lt-ltb, eqb-true}
 use lib.ListN.{getD, set, List·getD-map}
-use lib.Dec.{eqb}
+use lib.Dec.{eqb, ltb}
 use Rattle.protocol.specs.Bytes.{if, ascii, same}
 use Rattle.protocol.specs.Tickets.{iouText, iouFrom, aLogin, aSession, aService, aProxy, aWaiting, aGrant}
 use Rattle.protocol.specs.Records.{Rec, freeRec, nameOf}
 use Rattle.protocol.specs.Table.{Table, recAt}
 use Rattle.protocol.specs.Answers.{successText}
-use Rattle.protocol.specs.Steps.{tick, put, remove, endSession, isNamed, slotNamed, sessionOf, ticketSlot, waitingSlot, newRec, add, chainOf, proxyParent, turned, isPlain, takesProxies}
-use Rattle.protocol.specs.declared.Validator.{Validator}
+use Rattle.protocol.specs.Steps.{tick, put, remove, endSession, isNamed, slotNamed, sessionOf, ticketSlot, waitingSlot, newRec, newSession, newService, add, chainOf, proxyParent, turned}
 use Rattle.protocol.proofs.Laws.{both, same-eq}
 use Rattle.protocol.proofs.Added.{Room}
 use Rattle.account.specs.History.{Text}
-use Rattle.account.specs.Reading.{Item, Passed, Showed, Spent, Ended, Opened, Issued, Proxied, Burnt, Welcomed, CalledBack, Settled}
-use Rattle.account.specs.Notebook.{Line, burnt, accepted, spent, Notebook, closeAll, isLine, isTicket, isTicketLine, isWaitingLine, note, notebook}
-use Rattle.account.specs.Truth.{clockOf, loginUntil, loginLive, spentLive}
+use Rattle.account.specs.Reading.{Credentials, Item, Passed, Showed, SignedOn, Ended, Opened, Issued, Proxied, Burnt, Welcomed, CalledBack, Settled}
+use Rattle.account.specs.Notebook.{burnt, accepted, spent, isTicket}
+use Rattle.account.proofs.Ledger.{Line, Notebook, closeAll, isFound, look, isLine, isTicketLine, isWaitingLine, note, notebook}
+use Rattle.account.specs.Truth.{known}
 use Rattle.account.specs.Account.{one}
 use Rattle.account.proofs.Base.{Case, is, isnt, case, clash}
-use Rattle.account.proofs.Sim.{Slot, bare, noSlot, on, alive, Above, Up, upOf, Under, Sim}
+use Rattle.account.proofs.Sim.{Slot, bare, noSlot, on, alive, Above, Up, upOf, Under, Placed, login, session, below, Sim}
 use Rattle.account.proofs.Edits.{alive-time, ticket-among, under-of, home-lives}
 use Rattle.account.proofs.Look.{seen, recOf, Tied, rec-on, Hit, isTicketNamed, isWaitingOf, hit-named, hit-slot, miss-named, hit-ticket, miss-ticket, hit-waiting, ticket-kind, waiting-kind, named-kind}
 use Rattle.account.proofs.Tables.{put-slots, tied-none, tied-remove, tied-left, some-slot, left-good, tied-pass}
@@ -36,6 +36,12 @@ use Rattle.account.proofs.Chains.{user-ok, since-ok, chain-ok, depth-ok
 -- a table as it was, put together again
 pub tied-same : (L : Notebook) (t : Table) → Tied L t → Tied L (remove 0 t)
 tied-same L t w = record { A = w .A; n = w .n; slots-are = w .slots-are; clock-is = w .clock-is; next-is = w .next-is; sim = w .sim }
+
+-- a session's line names the user of its record
+session-user : (A : List Slot) (a : Slot) → Placed A a → a .r .kind ≡ 2 → a .e .user ≡ a .r .text
+session-user A a (login k s) e = absurd (omega arith)
+session-user A a (session k s n u v w) e = u
+session-user A a (below k u) e = absurd (omega arith)
 
 module _ (start : ℕ) (h : List Item) (t : Table) (R : Reached start h t) where
   abbrev L : Notebook
@@ -53,30 +59,75 @@ module _ (start : ℕ) (h : List Item) (t : Table) (R : Reached start h t) where
         paid = (new-text L t (R .tied) (m .serial) (newRec aLogin 0 0 0 0 [] random t) refl (omega arith) (omega arith), R .paid);
       }
 
-  pub reach-spend : (lt : Text) → Reached start (Spent lt ∷ h) (remove (slotNamed aLogin lt t) t)
-  unfolding notebook note
-  reach-spend lt = record { tied = go (case (eqb (slotNamed aLogin lt t) 0)); paid = (tt, R .paid) }
-    where
-      go : Case (eqb (slotNamed aLogin lt t) 0) → Tied (closeAll spent (isLine aLogin lt) L) (remove (slotNamed aLogin lt t) t)
-      go (is z) =
-          let e : slotNamed aLogin lt t ≡ 0 = eqb-true (slotNamed aLogin lt t) 0 z in
-          rw e (tied-same _ t (tied-none L t (R .tied) (isLine aLogin lt) spent refl (miss-named L t (R .tied) aLogin lt refl z)))
-      go (isnt z) =
-          let x = hit-named L t (R .tied) aLogin lt refl z in
-          let k = named-kind (L .clock) aLogin lt (on (R .tied .A) (slotNamed aLogin lt t) .r) (x .passes) in
-          tied-remove L t (R .tied) (slotNamed aLogin lt t) (x .live) (λ e. omega arith) (λ e. omega arith) (isLine aLogin lt) spent refl (x .picked) (x .others)
+  -- A sign-on spends its login ticket
+  module _ (cookie : Text) (c : Credentials) where
+    abbrev loginSlot : ℕ
+    loginSlot = slotNamed aLogin (c .lt) t
 
-  -- and it was live
-  pub spend-live : (lt : Text) → eqb (slotNamed aLogin lt t) 0 ≡ false → loginLive start h lt ≡ true
-  spend-live lt z =
-      let x = hit-named L t (R .tied) aLogin lt refl z in
-      let e : Line = on (R .tied .A) (slotNamed aLogin lt t) .e in
-      let s = seen (isLine aLogin lt) (L .book) e (x .line) in
-      let w = both (eqb (e .kind) aLogin) (same (e .name) lt) (s .2) in
-      let n : e .name ≡ lt = same-eq (e .name) lt (w .1) in
-      let u : loginUntil start h lt ≡ e .expiry = rw n at (all-logins start h (R .paid) e (s .0) (w .0) (s .1)) in
-      let g = R .tied .sim .good (slotNamed aLogin lt t) (x .live) in
-      lt-ltb (clockOf start h) (loginUntil start h lt) (omega (arith, clock-told start h, g .expiry-eq, alive-time (L .clock) (on (R .tied .A) (slotNamed aLogin lt t) .r) (x .live)))
+    abbrev spentL : Notebook
+    spentL = closeAll spent (isLine aLogin (c .lt)) L
+
+    spent-tied : Tied spentL (remove loginSlot t)
+    spent-tied = go (case (eqb loginSlot 0))
+      where
+        go : Case (eqb loginSlot 0) → Tied spentL (remove loginSlot t)
+        go (is z) =
+            let e : loginSlot ≡ 0 = eqb-true loginSlot 0 z in
+            rw e (tied-same _ t (tied-none L t (R .tied) (isLine aLogin (c .lt)) spent refl (miss-named L t (R .tied) aLogin (c .lt) refl z)))
+        go (isnt z) =
+            let x = hit-named L t (R .tied) aLogin (c .lt) refl z in
+            let k = named-kind (L .clock) aLogin (c .lt) (on (R .tied .A) loginSlot .r) (x .passes) in
+            tied-remove L t (R .tied) loginSlot (x .live) (λ e. omega arith) (λ e. omega arith) (isLine aLogin (c .lt)) spent refl (x .picked) (x .others)
+
+    login-found : isFound (look (isLine aLogin (c .lt)) (L .book)) ≡ not (eqb loginSlot 0)
+    login-found = go (case (eqb loginSlot 0))
+      where
+        go : Case (eqb loginSlot 0) → isFound (look (isLine aLogin (c .lt)) (L .book)) ≡ not (eqb loginSlot 0)
+        go (is z) = rw (z, miss-named L t (R .tied) aLogin (c .lt) refl z .line)
+        go (isnt z) = rw (z, hit-named L t (R .tied) aLogin (c .lt) refl z .line)
+
+    -- and it was live
+    pub spend-live : eqb loginSlot 0 ≡ false → ltb (known start h .clock) (known start h .login (c .lt) .until) ≡ true
+    spend-live z =
+        let x = hit-named L t (R .tied) aLogin (c .lt) refl z in
+        let e : Line = on (R .tied .A) loginSlot .e in
+        let s = seen (isLine aLogin (c .lt)) (L .book) e (x .line) in
+        let w = both (eqb (e .kind) aLogin) (same (e .name) (c .lt)) (s .2) in
+        let n : e .name ≡ c .lt = same-eq (e .name) (c .lt) (w .1) in
+        let u : known start h .login (c .lt) .until ≡ e .expiry = rw n at (all-logins start h (R .paid) e (s .0) (w .0) (s .1)) in
+        let g = R .tied .sim .good loginSlot (x .live) in
+        lt-ltb (known start h .clock) (known start h .login (c .lt) .until) (omega (arith, clock-told start h, g .expiry-eq, alive-time (L .clock) (on (R .tied .A) loginSlot .r) (x .live)))
+
+    -- without accepted credentials that is all
+    pub reach-unsigned : c .given && not (eqb loginSlot 0) ≡ false → Reached start (SignedOn cookie c ∷ h) (remove loginSlot t)
+    unfolding notebook note
+    reach-unsigned z = record { tied = rw (login-found, z) spent-tied; paid = (tt, R .paid) }
+
+    -- with them, the session of another user ends
+    module _ (given : c .given ≡ true) (shown : eqb loginSlot 0 ≡ false) where
+      pub reach-fresh : eqb (sessionOf cookie (remove loginSlot t)) 0 ≡ true → Reached start (SignedOn cookie c ∷ h) (remove loginSlot t)
+      unfolding notebook note
+      reach-fresh e = record { tied = rw (login-found, given, shown, miss-named spentL (remove loginSlot t) spent-tied aSession cookie refl e .line) spent-tied; paid = (tt, R .paid) }
+
+      module _ (e : eqb (sessionOf cookie (remove loginSlot t)) 0 ≡ false) where
+        abbrev s : ℕ
+        s = sessionOf cookie (remove loginSlot t)
+
+        owner : Hit spentL (spent-tied .A) s (isNamed (spentL .clock) aSession cookie) (isLine aSession cookie)
+        owner = hit-named spentL (remove loginSlot t) spent-tied aSession cookie refl e
+
+        owned-by : recAt s (remove loginSlot t .slots) .text ≡ on (spent-tied .A) s .e .user
+        owned-by =
+            rw (rec-on spentL (remove loginSlot t) spent-tied s)
+            (sym (session-user (spent-tied .A) (on (spent-tied .A) s) (spent-tied .sim .good s (owner .live) .placed) (named-kind (spentL .clock) aSession cookie (on (spent-tied .A) s .r) (owner .passes))))
+
+        pub reach-kept : same (recAt s (remove loginSlot t .slots) .text) (c .user) ≡ true → Reached start (SignedOn cookie c ∷ h) (remove loginSlot t)
+        unfolding notebook note
+        reach-kept own = record { tied = rw (login-found, given, shown, owner .line, rw owned-by at own) spent-tied; paid = (tt, R .paid) }
+
+        pub reach-changed : same (recAt s (remove loginSlot t .slots) .text) (c .user) ≡ false → Reached start (SignedOn cookie c ∷ h) (endSession s (remove loginSlot t))
+        unfolding notebook note
+        reach-changed other = record { tied = rw (login-found, given, shown, owner .line, rw owned-by at other) (end-some spentL (remove loginSlot t) spent-tied cookie e); paid = (tt, R .paid) }
 
   pub reach-end : (cookie : Text) → eqb (sessionOf cookie t) 0 ≡ false → Reached start (Ended cookie ∷ h) (endSession (sessionOf cookie t) t)
   unfolding notebook note
@@ -86,43 +137,38 @@ module _ (start : ℕ) (h : List Item) (t : Table) (R : Reached start h t) where
   unfolding notebook note
   reach-unended cookie e = record { tied = end-none L t (R .tied) cookie e; paid = (tt, R .paid) }
 
-  pub reach-open : Room t → (user random : List ℕ) (signed : Bool) (lt : Text) → signed ≡ true → spentLive start h lt ≡ true
-      → Reached start (Opened (nameOf (newRec aSession 0 0 0 0 user random t)) user signed lt ∷ h) (add (newRec aSession 0 0 0 0 user random t) t)
+  pub reach-open : Room t → (random : List ℕ) (c : Credentials) → c .given ≡ true → known start h .login (c .lt) .spentLive ≡ true
+      → Reached start (Opened (nameOf (newSession (c .user) random t)) c ∷ h) (add (newSession (c .user) random t) t)
   unfolding notebook note newRec
-  reach-open m user random signed lt yes-said live =
+  reach-open m random c given live =
       record {
-        tied = tied-session L t (R .tied) m user random;
-        paid = (
-          record {
-            new = new-text L t (R .tied) (m .serial) (newRec aSession 0 0 0 0 user random t) refl (omega arith) (omega arith);
-            said-yes = yes-said;
-            live = live;
-          },
-          R .paid,
-        );
+        tied = tied-session L t (R .tied) m (c .user) random;
+        paid = (record { new = new-text L t (R .tied) (m .serial) (newSession (c .user) random t) refl (omega arith) (omega arith); given = given; live = live }, R .paid);
       }
 
-  -- a service ticket under the session in slot s, which the cookie names
+  -- a service ticket under the session in slot s, which the cookie names; with credentials they are of its user
   pub reach-issue : Room t → (s : ℕ) (cookie : Text) → isNamed (t .clock) aSession cookie (recAt s (t .slots)) ≡ true
-      → (mark : ℕ) (service random : List ℕ) (signed : Bool) (lt : Text) → mark ≡ one signed → (signed ≡ true → spentLive start h lt ≡ true)
-      → Reached start (Issued cookie service (nameOf (newRec aService mark s s 0 service random t)) signed lt ∷ h) (add (newRec aService mark s s 0 service random t) t)
+      → (mark : ℕ) (service random : List ℕ) (c : Credentials) → mark ≡ one (c .given) → (c .given ≡ true → known start h .login (c .lt) .spentLive ≡ true) → (c .given ≡ true → c .user ≡ recAt s (t .slots) .text)
+      → Reached start (Issued cookie service (nameOf (newService mark s service random t)) c ∷ h) (add (newService mark s service random t) t)
   unfolding notebook note newRec
-  reach-issue m s cookie named mark service random signed lt marked live =
+  reach-issue m s cookie named mark service random c marked live own =
       let w = R .tied in
       let n : isNamed (L .clock) aSession cookie (on (w .A) s .r) ≡ true = rw (w .clock-is, rec-on L t w s) at named in
       let x = hit-slot L t w aSession cookie refl s n in
       let k = named-kind (L .clock) aSession cookie (on (w .A) s .r) n in
+      let u : recAt s (t .slots) .text ≡ on (w .A) s .e .user = rw (rec-on L t w s) (sym (session-user (w .A) (on (w .A) s) (w .sim .good s (x .live) .placed) k)) in
       record {
         tied =
             rw (x .line)
-            (tied-under L t w m s (x .live) (on (w .A) s .e) (session-source (w .A) (w .n) s (w .sim .good s (x .live)) k) aService mark s 0 service random [] signed 0 [] []
+            (tied-under L t w m s (x .live) (on (w .A) s .e) (session-source (w .A) (w .n) s (w .sim .good s (x .live)) k) aService mark s 0 service random [] (c .given) 0 [] []
             (omega arith) (omega arith) (omega arith) marked (λ e. absurd (omega arith)) (omega arith) (λ e. absurd (omega arith)) refl (λ e. absurd (omega arith)));
         paid = (
           record {
             source = on (w .A) s .e;
             line = x .line;
-            new = new-text L t w (m .serial) (newRec aService mark s s 0 service random t) refl (omega arith) (omega arith);
+            new = new-text L t w (m .serial) (newService mark s service random t) refl (omega arith) (omega arith);
             primary = live;
+            own = λ z. own z ∙ u;
           },
           R .paid,
         );
@@ -160,6 +206,7 @@ module _ (start : ℕ) (h : List Item) (t : Table) (R : Reached start h t) where
             line = x .line;
             new = new-text L t w (m .serial) (newRec aProxy 0 k (recAt k (t .slots) .session) 0 target random t) refl (omega arith) (omega arith);
             primary = λ z. absurd (clash z refl);
+            own = λ z. absurd (clash z refl);
           },
           R .paid,
         );
@@ -205,9 +252,9 @@ module _ (start : ℕ) (h : List Item) (t : Table) (R : Reached start h t) where
         record { tied = tied-remove L t (R .tied) k (hits .live) no-session no-grant (isTicketLine ticket) burnt refl (hits .picked) (hits .others); paid = (tt, R .paid) }
 
     -- accepted: the line's text, mark and kind are the record's
-    pub right-line : (v : Validator) (renew : Bool) (service : Text) → (eqb (recAt k (t .slots) .kind) aProxy ≡ true → takesProxies v ≡ true)
-        → (renew ≡ true → eqb (recAt k (t .slots) .mark) 0 ≡ false) → recAt k (t .slots) .text ≡ service → RightLine v renew service (a .e)
-    right-line v renew service taken marked meant =
+    pub right-line : (path : Text) (renew : Bool) (service : Text) → (eqb (recAt k (t .slots) .kind) aProxy ≡ true → path ≡ ascii "/cas/proxyValidate")
+        → (renew ≡ true → eqb (recAt k (t .slots) .mark) 0 ≡ false) → recAt k (t .slots) .text ≡ service → RightLine path renew service (a .e)
+    right-line path renew service taken marked meant =
         let g = R .tied .sim .good k (hits .live) in
         let r = rec-on L t (R .tied) k in
         let m : renew ≡ true → eqb (a .r .mark) 0 ≡ false = rw r at marked in
@@ -260,11 +307,11 @@ module _ (start : ℕ) (h : List Item) (t : Table) (R : Reached start h t) where
           rw (rec-on L t (R .tied) k)
           (chain-ok _ A′ (R .tied .n) sim-after (t′ .slots) rec-after a under-after (alive-time (L .clock) (a .r) (hits .live)) (proxyParent (a .r)) (ticket-up (a .r) is-ticket))
 
-      pub reach-welcome : (v : Validator) (renew : Bool) (service said : Text) → RightLine v renew service (a .e)
-          → said ≡ if (isPlain v) (ascii "yes\n") (successText (a .e .user) (a .e .since) (recAt k (t .slots) .mark) [] (chainOf (proxyParent (recAt k (t .slots))) (t′ .slots)))
-          → Reached start (Welcomed v renew ticket service said ∷ h) t′
+      pub reach-welcome : (path : Text) (renew : Bool) (service said : Text) → RightLine path renew service (a .e)
+          → said ≡ if (same path (ascii "/cas/validate")) (ascii "yes\n") (successText (a .e .user) (a .e .since) (recAt k (t .slots) .mark) [] (chainOf (proxyParent (recAt k (t .slots))) (t′ .slots)))
+          → Reached start (Welcomed path renew ticket service said ∷ h) t′
       unfolding notebook note
-      reach-welcome v renew service said right bytes =
+      reach-welcome path renew service said right bytes =
           record {
             tied = left .0;
             paid = (record { ticket-line = a .e; line = hits .line; right = right; bytes = rw (chain-told, mark-told) at bytes }, R .paid);
@@ -274,10 +321,10 @@ module _ (start : ℕ) (h : List Item) (t : Table) (R : Reached start h t) where
       waiting url random =
           newRec aWaiting (recAt k (t .slots) .mark) (proxyParent (recAt k (t .slots))) (recAt k (t .slots) .session) (recAt (proxyParent (recAt k (t .slots))) (t′ .slots) .depth + 1) url random t′
 
-      pub reach-callback : Room t′ → (v : Validator) (renew : Bool) (service url random : Text) → RightLine v renew service (a .e)
-          → Reached start (CalledBack v renew ticket service url (nameOf (waiting url random)) (iouText (waiting url random .iou)) (waiting url random .serial) ∷ h) (add (waiting url random) t′)
+      pub reach-callback : Room t′ → (path : Text) (renew : Bool) (service url random : Text) → RightLine path renew service (a .e)
+          → Reached start (CalledBack path renew ticket service url (nameOf (waiting url random)) (iouText (waiting url random .iou)) (waiting url random .serial) ∷ h) (add (waiting url random) t′)
       unfolding notebook note newRec closeAll
-      reach-callback m v renew service url random right =
+      reach-callback m path renew service url random right =
           let w = R .tied in
           let d = left in
           let u : Under (d .0 .A) a = rw (d .1) under-after in

@@ -1,5 +1,6 @@
 -- The proof of demand 3.
 pub mod Base
+pub mod Ledger
 pub mod Sim
 pub mod Edits
 pub mod Look
@@ -12,14 +13,16 @@ pub mod Logins
 pub mod Items
 pub mod Rules
 pub mod Texts
+pub mod Paths
 pub mod Counts
 pub mod LoginGet
-pub mod SignOn
 pub mod Validators
 pub mod LoginPost
 pub mod Others
 pub mod Run
 pub mod Traced
 pub mod Books
+pub mod Documents
+pub mod Clerk
 pub mod Demand
 pub mod Waiting

@@ -16,7 +16,8 @@ use Rattle.protocol.specs.Steps.{isNamed, slotNamed, ticketSlot, waitingSlot}
 use Rattle.protocol.proofs.Laws.{both, same-eq}
 use Rattle.protocol.proofs.Added.{slot-chosen}
 use Rattle.account.specs.History.{Text}
-use Rattle.account.specs.Notebook.{Line, Notebook, isHeld, found, nothing, look, isLine, isTicket, isTicketLine, isWaitingLine}
+use Rattle.account.specs.Notebook.{isTicket}
+use Rattle.account.proofs.Ledger.{Line, Notebook, isHeld, found, nothing, look, isLine, isTicketLine, isWaitingLine}
 use Rattle.account.proofs.Base.{Case, is, isnt, case, clash, untrue, and-yes, or-left, or-right, when, name-serial}
 use Rattle.account.proofs.Sim.{Slot, noSlot, on, alive, lives, weight, weigh, heft, total, Sim}
 use Rattle.account.proofs.Edits.{alive-kind, alive-time}

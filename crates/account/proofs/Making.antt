@@ -14,7 +14,7 @@ use Rattle.protocol.specs.Table.{Table}
 use Rattle.protocol.specs.Steps.{expiryFor, newRec, add}
 use Rattle.protocol.proofs.Added.{Room}
 use Rattle.account.specs.History.{Text}
-use Rattle.account.specs.Notebook.{Line, Notebook, enter, loginLine, sessionLine, lineUnder}
+use Rattle.account.proofs.Ledger.{Line, Notebook, enter, loginLine, sessionLine, lineUnder}
 use Rattle.account.specs.Account.{one}
 use Rattle.account.proofs.Base.{clash, name-serial}
 use Rattle.account.proofs.Sim.{Slot, on, lives, Up, deep, Under, Placed, login, session, below, Good}

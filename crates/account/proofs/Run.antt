@@ -1,39 +1,35 @@
 -- From one call to a whole run: after any calls the table stands at the trail of its history. Assumes nothing.
 use mathlib.Core.Path.{_≡_, refl, ap}
-use mathlib.Core.Bool.{true, false}
+use mathlib.Core.Bool.{Bool, true, false}
 use mathlib.Core.List.{List, [], _∷_, _++_, map, List·Memᴰ·not-nil}
 use Prim.Native.Nat.{ℕ, zero, suc, _+_, _-_, _/_, _%_, _≤_}
 use native.Mathlib.Omega.{arith}
 use borrow.Author.Tests.{eqb-true, leb-true}
 use lib.Dec.{eqb, leb}
 use lib.ListN.{length, replicate}
-use Rattle.protocol.specs.Bytes.{within}
+use Rattle.protocol.specs.Bytes.{if, ascii, same, among, within}
 use Rattle.protocol.specs.Records.{Rec, freeRec}
 use Rattle.protocol.specs.Table.{Table, encodeTable, decodeTable, tableShape, tableLawful, lastTime, formatted}
-use Rattle.protocol.specs.Request.{pathPart, pathNamed}
+use Rattle.protocol.specs.Request.{pathPart, requestOf}
 use Rattle.protocol.specs.Answers.{replyText, replyAnswer}
 use Rattle.protocol.specs.Steps.{Step, tick, finish}
 use Rattle.protocol.specs.Calls.{Inputs, Result, inputs, refusal, stepOf, outcomeWith, delivered, unchanged, answerOf, finishRefusal, finishOf, formatRefusal, formatOf}
-use Rattle.protocol.specs.declared.Path.{Path}
-use Rattle.protocol.specs.declared.Path.the-variants as path
-use Rattle.protocol.specs.declared.Answer.{Answer}
-use Rattle.protocol.specs.declared.Answer.the-variants as answer
-use Rattle.protocol.proofs.Laws.{both, table-back}
+use Rattle.protocol.proofs.Laws.{both, fork, and-false, table-back}
 use Rattle.protocol.proofs.Sound.{Sound, tick-sound}
-use Rattle.protocol.proofs.TicketSound.{finish-sound}
+use Rattle.protocol.proofs.StepSound.{finish-sound}
 use Rattle.protocol.proofs.Lasting.{lawful-sound, passes, passed, step-sound, formatted-sound}
-use Rattle.account.specs.History.{Text, Asked, Told, Call, ask, tell, served, Event, eventOf, tableAfter, historyOf}
-use Rattle.account.specs.Reading.{Item, Passed as PassedAt, readAsked, readFinish, readCall, read, trailOf}
-use Rattle.account.specs.Notebook.{Line, blank, notebook}
-use Rattle.account.specs.Account.{one, accepts, issuedBy, acceptedBy, issued, accepted}
-use Rattle.account.proofs.Base.{Case, is, isnt, case, clash, fork}
+use Rattle.account.specs.History.{Text, AnswerCall, FinishCall, Call, ask, tell, served, Event, eventOf, tableAfter, historyOf}
+use Rattle.account.specs.Reading.{Item, Passed as PassedAt, Settled, tells, saidIn, readRequest, readCall, read, trailOf}
+use Rattle.account.proofs.Ledger.{Line, blank, notebook}
+use Rattle.account.specs.Truth.{known}
+use Rattle.account.specs.Account.{one, validators, issuedBy, acceptedBy, successBy, sumOf, Frank, AllFrank}
+use Rattle.account.proofs.Base.{Case, is, isnt, case, clash}
 use Rattle.account.proofs.Sim.{noSlot, on, lives, weigh}
 use Rattle.account.proofs.Look.{recOf, Tied}
 use Rattle.account.proofs.Reached.{Reached}
 use Rattle.account.proofs.Items.{reach-pass}
 use Rattle.account.proofs.Texts.{append-assoc, said-is}
-use Rattle.account.proofs.Counts.{Ok, sum-append}
-use Rattle.account.specs.Account.{issuesIn, acceptsIn, sumIn}
+use Rattle.account.proofs.Counts.{Ok}
 use Rattle.account.proofs.Others.{finish-ok, request-ok}
 
 -- what is read of a delivered step
@@ -45,52 +41,52 @@ read-delivered c s out cookie = rw (said-is out (replyText (s .reply)), said-is 
 back : (t : Table) → Sound t → decodeTable (encodeTable t) ≡ t
 back t s = table-back t (s .fit) (omega (arith, s .rules .clock)) (s .next)
 
--- after a call: the table at the trail, and the counts of the answer are those of what is read
+-- after a call: the table at the trail, the counts of the result are those of what is read, and it is frank
 record After (start : ℕ) (h : List Item) (c : Call) (r : Result) : Type 0 where
   reached : Reached start (read (eventOf c r) ++ h) (decodeTable (r .table))
-  issues : issuedBy c (r .outcome .answer) ≡ sumIn issuesIn (read (eventOf c r))
-  accepts-eq : acceptedBy c (r .outcome .answer) ≡ sumIn acceptsIn (read (eventOf c r))
+  issues : issuedBy c (r .outcome .answer) + length (known start h .issued) ≡ length (known start (read (eventOf c r) ++ h) .issued)
+  accepts : acceptedBy c (r .outcome .answer) + length (known start h .accepted) ≡ length (known start (read (eventOf c r) ++ h) .accepted)
+  wins : successBy c (r .outcome .answer) + length (known start h .successful) ≡ length (known start (read (eventOf c r) ++ h) .successful)
+  frank : Frank c (r .outcome .answer) (saidIn (eventOf c r))
 
 -- a refused call says nothing and changes nothing
-accepts-none : (p : Path) → accepts p answer.Nothing ≡ false
-accepts-none path.Login = refl
-accepts-none path.Logout = refl
-accepts-none (path.Validate v) = refl
-accepts-none path.Proxy = refl
-accepts-none path.Unknown = refl
-
-counts-none : (c : Call) → (issuedBy c answer.Nothing ≡ 0) × (acceptedBy c answer.Nothing ≡ 0)
-unfolding issuedBy acceptedBy
-counts-none (ask a) = (refl, rw (accepts-none (pathNamed (pathPart (a .target)))))
-counts-none (tell f) = (refl, refl)
-
 refused : (start : ℕ) (h : List Item) (c : Call) (n : ℕ) (b out cookie : Text) → eqb n 0 ≡ false → Reached start h (decodeTable b) → After start h c (unchanged n b out cookie)
-unfolding read eventOf
-refused start h c n b out cookie e R = record { reached = rw e R; issues = rw e (counts-none c .0); accepts-eq = rw e (counts-none c .1) }
+unfolding read eventOf issuedBy acceptedBy successBy Frank same
+refused start h (ask a) n b out cookie e R =
+    record {
+      reached = rw e R;
+      issues = rw (e, and-false (same (pathPart (a .target)) (ascii "/cas/proxy"))) (omega arith);
+      accepts = rw (e, and-false (among (pathPart (a .target)) validators)) (omega arith);
+      wins = rw (e, and-false (among (pathPart (a .target)) validators)) (omega arith);
+      frank = λ v x. refl;
+    }
+refused start h (tell f) n b out cookie e R = record { reached = rw e R; issues = rw e (omega arith); accepts = rw e (omega arith); wins = rw e (omega arith); frank = λ x. refl }
 
 -- a call of answer
-module _ (start : ℕ) (h : List Item) (b : Text) (R : Reached start h (decodeTable b)) (a : Asked) where
+module _ (start : ℕ) (h : List Item) (b : Text) (R : Reached start h (decodeTable b)) (a : AnswerCall) where
   abbrev i : Inputs
   i = inputs b (a .register) (a .method) (a .target) (a .body) (a .cookie) (a .time) (a .random) (a .verdict) (a .out) (a .cookieOut)
 
-  abbrev p : Path
-  p = pathNamed (pathPart (a .target))
+  abbrev items : Step → List Item
+  items s = readRequest a (requestOf (a .method) (a .target) (a .body)) (replyAnswer (s .reply)) (replyText (s .reply)) (s .cookie) (s .cleared)
 
-  stepped : (let s = stepOf i in Ok start (PassedAt (a .time) ∷ h) p (readAsked (a .method) p a (replyAnswer (s .reply)) (replyText (s .reply)) (s .cookie) (s .cleared)) s)
+  stepped : Ok start (PassedAt (a .time) ∷ h) (pathPart (a .target)) (items (stepOf i)) (stepOf i)
   unfolding stepOf
-  stepped = request-ok start (PassedAt (a .time) ∷ h) (tick (a .time) (decodeTable b)) (reach-pass start h (decodeTable b) R (a .time)) a (a .method) p
+  stepped = request-ok start (PassedAt (a .time) ∷ h) (tick (a .time) (decodeTable b)) (reach-pass start h (decodeTable b) R (a .time)) a (a .method)
 
   answered : refusal i ≡ 0 → After start h (ask a) (delivered (stepOf i) (a .out) (a .cookieOut))
-  unfolding delivered outcomeWith issuedBy acceptedBy readCall
+  unfolding delivered outcomeWith eventOf issuedBy acceptedBy successBy Frank readCall known
   answered e =
       let s : Step = stepOf i in
-      let items : List Item = readAsked (a .method) p a (replyAnswer (s .reply)) (replyText (s .reply)) (s .cookie) (s .cleared) in
       let o = stepped in
+      let r = read-delivered (ask a) s (a .out) (a .cookieOut) in
+      let p = append-assoc (items s) (PassedAt (a .time) ∷ []) h in
       record {
-        reached =
-            rw (read-delivered (ask a) s (a .out) (a .cookieOut), back (s .table) (step-sound i (passed i e)), append-assoc items (PassedAt (a .time) ∷ []) h) (o .reached);
-        issues = rw (read-delivered (ask a) s (a .out) (a .cookieOut)) (omega (arith, o .issues, sum-append issuesIn items (PassedAt (a .time) ∷ [])));
-        accepts-eq = rw (read-delivered (ask a) s (a .out) (a .cookieOut)) (omega (arith, o .accepts-eq, sum-append acceptsIn items (PassedAt (a .time) ∷ [])));
+        reached = rw (r, back (s .table) (step-sound i (passed i e)), p) (o .reached);
+        issues = rw (r, p) (o .issues);
+        accepts = rw (r, p) (o .accepts);
+        wins = rw (r, p) (o .wins);
+        frank = λ v x. rw (said-is (a .out) (replyText (s .reply))) (o .frank v x);
       }
 
   ask-after : After start h (ask a) (answerOf i)
@@ -98,7 +94,7 @@ module _ (start : ℕ) (h : List Item) (b : Text) (R : Reached start h (decodeTa
   ask-after = fork (After start h (ask a)) (eqb (refusal i) 0) (λ e. answered (eqb-true (refusal i) 0 e)) (λ e. refused start h (ask a) (refusal i) b (a .out) (a .cookieOut) e R)
 
 -- a call of finish
-module _ (start : ℕ) (h : List Item) (b : Text) (R : Reached start h (decodeTable b)) (f : Told) where
+module _ (start : ℕ) (h : List Item) (b : Text) (R : Reached start h (decodeTable b)) (f : FinishCall) where
   abbrev t : Table
   t = tick (f .time) (decodeTable b)
 
@@ -111,28 +107,29 @@ module _ (start : ℕ) (h : List Item) (b : Text) (R : Reached start h (decodeTa
       let p6 = passes (leb (f .time) lastTime) 6 0 (omega arith) (p4 .1) in
       tick-sound (f .time) (decodeTable b) (leb-true (f .time) lastTime (p6 .0)) (lawful-sound b (p1 .0) (p2 .0))
 
-  no-counts : (r : Answer) (said : Text) → (sumIn issuesIn (readFinish f r said) ≡ 0) × (sumIn acceptsIn (readFinish f r said) ≡ 0)
-  unfolding readFinish
-  no-counts answer.Nothing said = (refl, refl)
-  no-counts (answer.Page status) said = (refl, refl)
-  no-counts (answer.Redirect x) said = (refl, refl)
-  no-counts (answer.Text x) said = (refl, refl)
-  no-counts (answer.Xml true) said = (refl, refl)
-  no-counts (answer.Xml false) said = (refl, refl)
-  no-counts (answer.Callback n) said = (refl, refl)
+  abbrev settling : Bool → Text → List Item
+  settling z said = if z (Settled (f .serial) (f .outcome) said ∷ []) []
+
+  counts : (z : Bool) (said : Text) → (known start h .issued ≡ known start (settling z said ++ (PassedAt (f .time) ∷ h)) .issued) × (known start h .accepted ≡ known start (settling z said ++ (PassedAt (f .time) ∷ h)) .accepted)
+      × (one z + length (known start h .successful) ≡ length (known start (settling z said ++ (PassedAt (f .time) ∷ h)) .successful))
+  unfolding known
+  counts true said = (refl, refl, omega arith)
+  counts false said = (refl, refl, omega arith)
 
   told : finishRefusal b (f .time) (length (f .out)) ≡ 0 → After start h (tell f) (delivered (finish (f .serial) (f .outcome) t) (f .out) [])
-  unfolding delivered outcomeWith issuedBy acceptedBy readCall
+  unfolding delivered outcomeWith eventOf issuedBy acceptedBy successBy Frank readCall
   told e =
       let s : Step = finish (f .serial) (f .outcome) t in
-      let items : List Item = readFinish f (replyAnswer (s .reply)) (replyText (s .reply)) in
-      let n = no-counts (replyAnswer (s .reply)) (replyText (s .reply)) in
+      let o = finish-ok start (PassedAt (f .time) ∷ h) t (reach-pass start h (decodeTable b) R (f .time)) f in
+      let n = counts (tells (replyAnswer (s .reply))) (replyText (s .reply)) in
+      let r = read-delivered (tell f) s (f .out) [] in
+      let p = append-assoc (settling (tells (replyAnswer (s .reply))) (replyText (s .reply))) (PassedAt (f .time) ∷ []) h in
       record {
-        reached =
-            rw (read-delivered (tell f) s (f .out) [], back (s .table) (finish-sound (f .serial) (f .outcome) t (finish-started e)), append-assoc items (PassedAt (f .time) ∷ []) h)
-            (finish-ok start (PassedAt (f .time) ∷ h) t (reach-pass start h (decodeTable b) R (f .time)) f);
-        issues = rw (read-delivered (tell f) s (f .out) []) (omega (arith, n .0, sum-append issuesIn items (PassedAt (f .time) ∷ [])));
-        accepts-eq = rw (read-delivered (tell f) s (f .out) []) (omega (arith, n .1, sum-append acceptsIn items (PassedAt (f .time) ∷ [])));
+        reached = rw (r, back (s .table) (finish-sound (f .serial) (f .outcome) t (finish-started e)), p) (o .reached);
+        issues = rw (r, p) (omega (arith, ap (λ (l : List Text). length l) (n .0)));
+        accepts = rw (r, p) (omega (arith, ap (λ (l : List Text). length l) (n .1)));
+        wins = rw (r, p) (n .2);
+        frank = λ x. rw (said-is (f .out) (replyText (s .reply))) (o .frank x);
       }
 
   tell-after : After start h (tell f) (finishOf b (f .serial) (f .outcome) (f .time) (f .out))
@@ -149,20 +146,23 @@ call-after start h b R (tell f) = tell-after start h b R f
 -- a run
 pub record Life (start : ℕ) (es : List Event) (b : Text) : Type 0 where
   pub reached : Reached start (trailOf es) (decodeTable b)
-  pub issues : issued es ≡ sumIn issuesIn (trailOf es)
-  pub accepts-eq : accepted es ≡ sumIn acceptsIn (trailOf es)
+  pub issues : sumOf issuedBy es ≡ length (known start (trailOf es) .issued)
+  pub accepts : sumOf acceptedBy es ≡ length (known start (trailOf es) .accepted)
+  pub wins : sumOf successBy es ≡ length (known start (trailOf es) .successful)
+  pub frank : AllFrank es
 
 pub life : (start : ℕ) (b : Text) → Reached start [] (decodeTable b) → (cs : List Call) → Life start (historyOf b cs) (tableAfter b cs)
-unfolding historyOf tableAfter trailOf issued accepted eventOf
-life start b R [] = record { reached = R; issues = refl; accepts-eq = refl }
+unfolding historyOf tableAfter trailOf sumOf AllFrank eventOf known
+life start b R [] = record { reached = R; issues = refl; accepts = refl; wins = refl; frank = tt }
 life start b R (c ∷ cs) =
     let l = life start b R cs in
-    let es = historyOf b cs in
-    let o = call-after start (trailOf es) (tableAfter b cs) (l .reached) c in
+    let o = call-after start (trailOf (historyOf b cs)) (tableAfter b cs) (l .reached) c in
     record {
       reached = o .reached;
-      issues = omega (arith, o .issues, l .issues, sum-append issuesIn (read (eventOf c (served c (tableAfter b cs)))) (trailOf es));
-      accepts-eq = omega (arith, o .accepts-eq, l .accepts-eq, sum-append acceptsIn (read (eventOf c (served c (tableAfter b cs)))) (trailOf es));
+      issues = omega (arith, o .issues, l .issues);
+      accepts = omega (arith, o .accepts, l .accepts);
+      wins = omega (arith, o .wins, l .wins);
+      frank = (o .frank, l .frank);
     }
 
 -- the start: a formatted table beside an empty notebook

@@ -17,7 +17,8 @@ use Rattle.protocol.specs.Table.{Table, recAt}
 use Rattle.protocol.specs.Steps.{put, endRec, endSession, sessionOf, turned, waitingSlot}
 use Rattle.protocol.proofs.Laws.{same-eq, same-refl, one-test, or-both}
 use Rattle.account.specs.History.{Text}
-use Rattle.account.specs.Notebook.{ended, Notebook, closeAll, raise, raiseLine, raiseAll, nothing, look, isLine, isWaitingLine, ofSession}
+use Rattle.account.specs.Notebook.{ended}
+use Rattle.account.proofs.Ledger.{Notebook, closeAll, raise, raiseLine, raiseAll, nothing, look, isLine, isWaitingLine, ofSession}
 use Rattle.account.proofs.Base.{if-same, clash}
 use Rattle.account.proofs.Sim.{Slot, noLine, noSlot, on, alive, lives, upOf, Under, Placed, login, session, below, Good}
 use Rattle.account.proofs.Edits.{raise-name, raise-ref, alive-time, alive-is, under-of, home-lives, up-grants, sim-drop, sim-change}

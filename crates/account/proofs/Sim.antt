@@ -11,7 +11,8 @@ use Rattle.protocol.specs.Bytes.{if, within}
 use Rattle.protocol.specs.Tickets.{aLogin, aGrant, ticketText, iouText}
 use Rattle.protocol.specs.Records.{Rec, freeRec, nameOf}
 use Rattle.account.specs.History.{Text}
-use Rattle.account.specs.Notebook.{held, Line, Notebook, isHeld}
+use Rattle.account.specs.Notebook.{held}
+use Rattle.account.proofs.Ledger.{Line, Notebook, isHeld}
 use Rattle.account.specs.Account.{one}
 use Rattle.account.proofs.Base.{Case, is, isnt, case, clash, when, sum}
 

@@ -15,7 +15,8 @@ use Rattle.protocol.specs.Table.{Table, putAt}
 use Rattle.protocol.specs.Steps.{clearRec, tick, put, remove, slotFor, add}
 use Rattle.protocol.proofs.Added.{Room}
 use Rattle.protocol.proofs.Laws.{and-false}
-use Rattle.account.specs.Notebook.{Fate, expired, Line, Notebook, isHeld, closeLine, closeAll, enter, pass}
+use Rattle.account.specs.Notebook.{Fate, expired}
+use Rattle.account.proofs.Ledger.{Line, Notebook, isHeld, closeLine, closeAll, enter, pass}
 use Rattle.account.proofs.Base.{if-same, clash}
 use Rattle.account.proofs.Sim.{Slot, noLine, bare, noSlot, on, alive, lives, upOf, Under, session, Good, Sim, good-move}
 use Rattle.account.proofs.Edits.{alive-time, free-dead, under-of, home-lives, parent-lives, up-grants, sim-drop, sim-put, sim-time}

@@ -2,7 +2,7 @@
 use mathlib.Core.Path.{_≡_, refl, ap, _∙_}
 use mathlib.Core.Bool.{Bool, true, false, _&&_, _||_}
 use mathlib.Core.List.{List, [], _∷_, _++_}
-use Prim.Native.Nat.{ℕ, zero, suc, _+_, _-_, _/_, _%_, _≤_, _<_}
+use Prim.Native.Nat.{ℕ, zero, suc, _+_, _/_, _%_, _≤_}
 use native.Mathlib.Omega.{arith}
 use borrow.Author.Tests.{ltb-true, ltb-false, le-leb, leb-true, ne-eqb, eq-eqb}
 use lib.Dec.{eqb, leb, ltb}
@@ -130,10 +130,6 @@ unfolding formText pageHead digits same letter
 form-401 lt service h = (refl, rw (escaped-letters lt h) (upTo-letters 34 lt (afterLogin service) refl h))
 
 -- other pages are no forms
-pub page-400 : isForm (pageHead 400 (decimal 400)) ≡ false
-unfolding pageHead digits same
-page-400 = refl
-
 pub page-403 : isForm (pageHead 403 (decimal 403)) ≡ false
 unfolding pageHead digits same
 page-403 = refl

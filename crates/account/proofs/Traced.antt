@@ -8,13 +8,14 @@ use borrow.Author.Tests.{eqb-true, ne-eqb, eq-eqb}
 use lib.Dec.{eqb}
 use Rattle.protocol.specs.Bytes.{if, same}
 use Rattle.protocol.specs.Tickets.{aSession, aService, aProxy, aWaiting, aGrant}
-use Rattle.protocol.specs.declared.Validator.{Validator}
 use Rattle.protocol.proofs.Laws.{both, same-eq, same-refl}
 use Rattle.account.specs.History.{Text}
-use Rattle.account.specs.Reading.{Item, Passed, Showed, Spent, Ended, Opened, Issued, Proxied, Burnt, Welcomed, CalledBack, Settled}
-use Rattle.account.specs.Notebook.{Fate, Line, isHeld, close, closeLine, closeAll, raiseLine, raiseAll, enter, pass, found, look, isLine, isTicket, isTicketLine, isWaitingLine, loginLine, sessionLine, lineUnder, note, notebook}
-use Rattle.account.specs.Truth.{noIssue, issueIn, noMaking, makingIn, noOpening, openingIn, Opener, Origin, Granting, loginOrigin, grantOrigin, openerOf, spentLive, originOf, grantOf, calledOf}
+use Rattle.account.specs.Reading.{Credentials, noCredentials, Item, Passed, Showed, SignedOn, Ended, Opened, Issued, Proxied, Burnt, Welcomed, CalledBack, Settled}
+use Rattle.account.specs.Notebook.{Fate, ended, isTicket}
+use Rattle.account.proofs.Ledger.{Line, Notebook, isHeld, close, closeLine, closeAll, raiseLine, raiseAll, enter, pass, found, look, isLine, isTicketLine, isWaitingLine, ofSession, loginLine, sessionLine, lineUnder, note, notebook}
+use Rattle.account.specs.Truth.{Opener, Origin, Granting, loginOrigin, grantOrigin, known}
 use Rattle.account.proofs.Base.{Case, is, isnt, case, clash, untrue}
+use Rattle.account.proofs.Edits.{signed-keeps}
 use Rattle.account.proofs.Look.{seen}
 use Rattle.account.proofs.Logins.{clock-told}
 use Rattle.account.proofs.Reached.{OwesIssue, OwesCallback, Owes, AllOwes}
@@ -34,10 +35,10 @@ abbrev pub openerIn : Line → Opener
 openerIn e = record { user = e .user; since = e .since }
 
 pub record Traced (start : ℕ) (h : List Item) (e : Line) : Type 0 where
-  pub ticket : isTicket (e .kind) ≡ true → originOf start h (e .name) ≡ originIn e
-  pub opener : eqb (e .kind) aSession ≡ true → openerOf start h (e .name) ≡ openerIn e
-  pub grant : isPgt (e .kind) ≡ true → grantOf start h (e .name) ≡ grantingIn e
-  pub called : eqb (e .kind) aWaiting ≡ true → calledOf start h (e .ref) ≡ grantingIn e
+  pub ticket : isTicket (e .kind) ≡ true → known start h .origin (e .name) ≡ originIn e
+  pub opener : eqb (e .kind) aSession ≡ true → known start h .opener (e .name) ≡ openerIn e
+  pub grant : isPgt (e .kind) ≡ true → known start h .grant (e .name) ≡ grantingIn e
+  pub called : eqb (e .kind) aWaiting ≡ true → known start h .called (e .ref) ≡ grantingIn e
 
 abbrev pub AllTraced : ℕ → List Item → List Line → Type 0
 AllTraced start h book = (e : Line) → List·Memᴰ e book → Traced start h e
@@ -83,37 +84,37 @@ enter-traced start h x book k all e m = go (List·Memᴰ·cases-cons m)
 
 -- nothing that names a ticket, a session or a grant
 module _ (start : ℕ) (older : List Item) (book : List Line) (all : AllTraced start older book) where
-  aged-quiet : (i : Item) → issueIn i ≡ noIssue → makingIn i ≡ noMaking → openingIn i ≡ noOpening → AllTraced start (i ∷ older) book
-  unfolding originOf openerOf calledOf
-  aged-quiet i p q r e m =
+  aged-quiet : (i : Item) → known start (i ∷ older) .origin ≡ known start older .origin → known start (i ∷ older) .opener ≡ known start older .opener
+      → known start (i ∷ older) .grant ≡ known start older .grant → known start (i ∷ older) .called ≡ known start older .called → AllTraced start (i ∷ older) book
+  aged-quiet i p q r s e m =
       let k = all e m in
-      record { ticket = rw p (k .ticket); opener = rw r (k .opener); grant = rw q (k .grant); called = rw q (k .called) }
+      record { ticket = rw p (k .ticket); opener = rw q (k .opener); grant = rw r (k .grant); called = rw s (k .called) }
 
   unlike : (x : Text) → ((e : Line) → List·Memᴰ e book → e .name ≢ x) → (e : Line) → List·Memᴰ e book → same x (e .name) ≡ false
   unlike x new e m = untrue (same x (e .name)) (λ z. new e m (sym (same-eq x (e .name) z)))
 
-  aged-open : (cookie user : Text) (signed : Bool) (lt : Text) → ((e : Line) → List·Memᴰ e book → e .name ≢ cookie) → AllTraced start (Opened cookie user signed lt ∷ older) book
-  unfolding originOf openerOf calledOf
-  aged-open cookie user signed lt new e m =
+  aged-open : (cookie : Text) (c : Credentials) → ((e : Line) → List·Memᴰ e book → e .name ≢ cookie) → AllTraced start (Opened cookie c ∷ older) book
+  unfolding known
+  aged-open cookie c new e m =
       let k = all e m in
       record { ticket = k .ticket; opener = rw (unlike cookie new e m) (k .opener); grant = k .grant; called = k .called }
 
-  aged-issue : (cookie service ticket : Text) (signed : Bool) (lt : Text) → ((e : Line) → List·Memᴰ e book → e .name ≢ ticket) → AllTraced start (Issued cookie service ticket signed lt ∷ older) book
-  unfolding originOf openerOf calledOf
-  aged-issue cookie service ticket signed lt new e m =
+  aged-issue : (cookie service ticket : Text) (c : Credentials) → ((e : Line) → List·Memᴰ e book → e .name ≢ ticket) → AllTraced start (Issued cookie service ticket c ∷ older) book
+  unfolding known
+  aged-issue cookie service ticket c new e m =
       let k = all e m in
       record { ticket = rw (unlike ticket new e m) (k .ticket); opener = k .opener; grant = k .grant; called = k .called }
 
   aged-proxy : (pgt target ticket : Text) → ((e : Line) → List·Memᴰ e book → e .name ≢ ticket) → AllTraced start (Proxied pgt target ticket ∷ older) book
-  unfolding originOf openerOf calledOf
+  unfolding known
   aged-proxy pgt target ticket new e m =
       let k = all e m in
       record { ticket = rw (unlike ticket new e m) (k .ticket); opener = k .opener; grant = k .grant; called = k .called }
 
-  aged-callback : (v : Validator) (renew : Bool) (ticket service url pgt iou : Text) (serial : ℕ) → ((e : Line) → List·Memᴰ e book → e .name ≢ pgt) → ((e : Line) → List·Memᴰ e book → e .ref ≢ serial)
-      → AllTraced start (CalledBack v renew ticket service url pgt iou serial ∷ older) book
-  unfolding originOf openerOf calledOf
-  aged-callback v renew ticket service url pgt iou serial new number e m =
+  aged-callback : (path : Text) (renew : Bool) (ticket service url pgt iou : Text) (serial : ℕ) → ((e : Line) → List·Memᴰ e book → e .name ≢ pgt) → ((e : Line) → List·Memᴰ e book → e .ref ≢ serial)
+      → AllTraced start (CalledBack path renew ticket service url pgt iou serial ∷ older) book
+  unfolding known
+  aged-callback path renew ticket service url pgt iou serial new number e m =
       let k = all e m in
       let z : eqb serial (e .ref) ≡ false = ne-eqb serial (e .ref) (λ x. number e m (sym x)) in
       record { ticket = k .ticket; opener = k .opener; grant = rw (unlike pgt new e m) (k .grant); called = rw z (k .called) }
@@ -123,9 +124,9 @@ module _ (start : ℕ) (older : List Item) (book : List Line) (all : AllTraced s
 plain-line : (start : ℕ) (h : List Item) (e : Line) → isTicket (e .kind) ≡ false → eqb (e .kind) aSession ≡ false → isPgt (e .kind) ≡ false → eqb (e .kind) aWaiting ≡ false → Traced start h e
 plain-line start h e a b c d = record { ticket = λ u. absurd (clash u a); opener = λ u. absurd (clash u b); grant = λ u. absurd (clash u c); called = λ u. absurd (clash u d) }
 
-open-line : (start : ℕ) (older : List Item) (cookie user : Text) (signed : Bool) (lt : Text) → Traced start (Opened cookie user signed lt ∷ older) (sessionLine cookie user (notebook start older .clock))
-unfolding openerOf
-open-line start older cookie user signed lt =
+open-line : (start : ℕ) (older : List Item) (cookie : Text) (c : Credentials) → Traced start (Opened cookie c ∷ older) (sessionLine cookie (c .user) (notebook start older .clock))
+unfolding known
+open-line start older cookie c =
     record {
       ticket = λ u. absurd (clash u refl);
       opener = λ u. rw (same-refl cookie, clock-told start older);
@@ -138,12 +139,12 @@ line-of : (kind : ℕ) (text : Text) (e : Line) → isLine kind text e ≡ true 
 line-of kind text e z = let w = both (eqb (e .kind) kind) (same (e .name) text) z in (w .0, same-eq (e .name) text (w .1))
 
 module _ (start : ℕ) (older : List Item) (all : AllTraced start older (notebook start older .book)) where
-  issue-line : (cookie service ticket : Text) (signed : Bool) (lt : Text) (o : OwesIssue start older (isLine aSession cookie) ticket signed lt)
-      → Traced start (Issued cookie service ticket signed lt ∷ older) (lineUnder aService ticket 0 service [] signed [] [] (notebook start older .clock) (o .source))
-  unfolding originOf
-  issue-line cookie service ticket signed lt o =
+  issue-line : (cookie service ticket : Text) (c : Credentials) (o : OwesIssue start older (isLine aSession cookie) ticket c)
+      → Traced start (Issued cookie service ticket c ∷ older) (lineUnder aService ticket 0 service [] (c .given) [] [] (notebook start older .clock) (o .source))
+  unfolding known
+  issue-line cookie service ticket c o =
       record {
-        ticket = λ u. rw (same-refl ticket) (ap₂ (λ (x : Opener) (c : Bool). loginOrigin service x c) opener (sign signed (o .primary)));
+        ticket = λ u. rw (same-refl ticket) (ap₂ (λ (x : Opener) (c : Bool). loginOrigin service x c) opener (sign (c .given) (o .primary) (o .own)));
         opener = λ u. absurd (clash u refl);
         grant = λ u. absurd (clash u refl);
         called = λ u. absurd (clash u refl);
@@ -155,16 +156,17 @@ module _ (start : ℕ) (older : List Item) (all : AllTraced start older (noteboo
       n : (eqb (o .source .kind) aSession ≡ true) × (o .source .name ≡ cookie)
       n = line-of aSession cookie (o .source) (s .2)
 
-      opener : openerOf start older cookie ≡ openerIn (o .source)
+      opener : known start older .opener cookie ≡ openerIn (o .source)
       opener = rw (n .1) at (all (o .source) (s .0) .opener (n .0))
 
-      sign : (b : Bool) → (b ≡ true → spentLive start older lt ≡ true) → (b && spentLive start older lt) ≡ b
-      sign true f = f refl
-      sign false f = refl
+      sign : (b : Bool) → (b ≡ true → known start older .login (c .lt) .spentLive ≡ true) → (b ≡ true → c .user ≡ o .source .user)
+          → (b && known start older .login (c .lt) .spentLive && same (c .user) (known start older .opener cookie .user)) ≡ b
+      sign true f g = rw (f refl, opener, g refl) (same-refl (o .source .user))
+      sign false f g = refl
 
-  proxy-line : (pgt target ticket : Text) (o : OwesIssue start older (isLine aGrant pgt) ticket false [])
+  proxy-line : (pgt target ticket : Text) (o : OwesIssue start older (isLine aGrant pgt) ticket noCredentials)
       → Traced start (Proxied pgt target ticket ∷ older) (lineUnder aProxy ticket 0 target (o .source .text ∷ o .source .chain) false [] [] (notebook start older .clock) (o .source))
-  unfolding originOf
+  unfolding known
   proxy-line pgt target ticket o =
       record {
         ticket = λ u. rw (same-refl ticket) (ap (grantOrigin target) grant);
@@ -182,22 +184,22 @@ module _ (start : ℕ) (older : List Item) (all : AllTraced start older (noteboo
       is-pgt : isPgt (o .source .kind) ≡ true
       is-pgt = let k : o .source .kind ≡ 6 = eqb-true (o .source .kind) 6 (n .0) in rw k
 
-      grant : grantOf start older pgt ≡ grantingIn (o .source)
+      grant : known start older .grant pgt ≡ grantingIn (o .source)
       grant = rw (n .1) at (all (o .source) (s .0) .grant is-pgt)
 
   -- the ticket that a validator was shown
-  pub ticket-of : (ticket : Text) (x : Line) → look (isTicketLine ticket) (notebook start older .book) ≡ found x → (x .name ≡ ticket) × (originOf start older ticket ≡ originIn x)
+  pub ticket-of : (ticket : Text) (x : Line) → look (isTicketLine ticket) (notebook start older .book) ≡ found x → (x .name ≡ ticket) × (known start older .origin ticket ≡ originIn x)
   ticket-of ticket x l =
       let s = seen (isTicketLine ticket) (notebook start older .book) x l in
       let w = both (isTicket (x .kind)) (same (x .name) ticket) (s .2) in
       let n : x .name ≡ ticket = same-eq (x .name) ticket (w .1) in
       (n, rw n at (all x (s .0) .ticket (w .0)))
 
-  callback-line : (v : Validator) (renew : Bool) (ticket service url pgt iou : Text) (serial : ℕ) (o : OwesCallback start older v renew ticket service pgt serial)
-      → Traced start (CalledBack v renew ticket service url pgt iou serial ∷ older)
+  callback-line : (path : Text) (renew : Bool) (ticket service url pgt iou : Text) (serial : ℕ) (o : OwesCallback start older path renew ticket service pgt serial)
+      → Traced start (CalledBack path renew ticket service url pgt iou serial ∷ older)
       (lineUnder aWaiting pgt serial url (o .ticket-line .chain) (o .ticket-line .mark) (o .ticket-line .name) iou (notebook start older .clock) (o .ticket-line))
-  unfolding originOf calledOf
-  callback-line v renew ticket service url pgt iou serial o =
+  unfolding known
+  callback-line path renew ticket service url pgt iou serial o =
       let x = ticket-of ticket (o .ticket-line) (o .line) in
       record {
         ticket = λ u. absurd (clash u refl);
@@ -208,24 +210,26 @@ module _ (start : ℕ) (older : List Item) (all : AllTraced start older (noteboo
 
 -- one thing more
 step-traced : (start : ℕ) (i : Item) (older : List Item) → Owes start i older → AllTraced start older (notebook start older .book) → AllTraced start (i ∷ older) (note i (notebook start older) .book)
-unfolding note pass closeAll raiseAll enter
-step-traced start (Passed time) older o all = close-traced start _ _ _ _ (aged-quiet start older _ all (Passed time) refl refl refl)
-step-traced start (Showed lt) older o all = enter-traced start _ _ _ (plain-line start _ (loginLine lt (notebook start older .clock)) refl refl refl refl) (aged-quiet start older _ all (Showed lt) refl refl refl)
-step-traced start (Spent lt) older o all = close-traced start _ _ _ _ (aged-quiet start older _ all (Spent lt) refl refl refl)
-step-traced start (Ended cookie) older o all = close-traced start _ _ _ _ (aged-quiet start older _ all (Ended cookie) refl refl refl)
-step-traced start (Opened cookie user signed lt) older o all = enter-traced start _ _ _ (open-line start older cookie user signed lt) (aged-open start older _ all cookie user signed lt (o .new))
-step-traced start (Issued cookie service ticket signed lt) older o all =
-    rw (o .line) (enter-traced start _ _ _ (issue-line start older all cookie service ticket signed lt o) (aged-issue start older _ all cookie service ticket signed lt (o .new)))
+unfolding note pass closeAll raiseAll enter known
+step-traced start (Passed time) older o all = close-traced start _ _ _ _ (aged-quiet start older _ all (Passed time) refl refl refl refl)
+step-traced start (Showed lt) older o all = enter-traced start _ _ _ (plain-line start _ (loginLine lt (notebook start older .clock)) refl refl refl refl) (aged-quiet start older _ all (Showed lt) refl refl refl refl)
+step-traced start (SignedOn cookie c) older o all =
+    let s = close-traced start _ _ _ _ (aged-quiet start older _ all (SignedOn cookie c) refl refl refl refl) in
+    signed-keeps (λ (n : Notebook). AllTraced start (SignedOn cookie c ∷ older) (n .book)) cookie c (notebook start older) s (close-traced start _ ended (ofSession cookie) _ s)
+step-traced start (Ended cookie) older o all = close-traced start _ _ _ _ (aged-quiet start older _ all (Ended cookie) refl refl refl refl)
+step-traced start (Opened cookie c) older o all = enter-traced start _ _ _ (open-line start older cookie c) (aged-open start older _ all cookie c (o .new))
+step-traced start (Issued cookie service ticket c) older o all =
+    rw (o .line) (enter-traced start _ _ _ (issue-line start older all cookie service ticket c o) (aged-issue start older _ all cookie service ticket c (o .new)))
 step-traced start (Proxied pgt target ticket) older o all =
     rw (o .line) (enter-traced start _ _ _ (proxy-line start older all pgt target ticket o) (aged-proxy start older _ all pgt target ticket (o .new)))
-step-traced start (Burnt ticket) older o all = close-traced start _ _ _ _ (aged-quiet start older _ all (Burnt ticket) refl refl refl)
-step-traced start (Welcomed v renew ticket service said) older o all = close-traced start _ _ _ _ (aged-quiet start older _ all (Welcomed v renew ticket service said) refl refl refl)
-step-traced start (CalledBack v renew ticket service url pgt iou serial) older o all =
+step-traced start (Burnt ticket) older o all = close-traced start _ _ _ _ (aged-quiet start older _ all (Burnt ticket) refl refl refl refl)
+step-traced start (Welcomed path renew ticket service said) older o all = close-traced start _ _ _ _ (aged-quiet start older _ all (Welcomed path renew ticket service said) refl refl refl refl)
+step-traced start (CalledBack path renew ticket service url pgt iou serial) older o all =
     rw (o .line)
-    (enter-traced start _ _ _ (callback-line start older all v renew ticket service url pgt iou serial o)
-    (close-traced start _ _ _ _ (aged-callback start older _ all v renew ticket service url pgt iou serial (o .new) (o .new-ref))))
-step-traced start (Settled serial true said) older o all = raise-traced start _ serial _ (aged-quiet start older _ all (Settled serial true said) refl refl refl)
-step-traced start (Settled serial false said) older o all = close-traced start _ _ _ _ (aged-quiet start older _ all (Settled serial false said) refl refl refl)
+    (enter-traced start _ _ _ (callback-line start older all path renew ticket service url pgt iou serial o)
+    (close-traced start _ _ _ _ (aged-callback start older _ all path renew ticket service url pgt iou serial (o .new) (o .new-ref))))
+step-traced start (Settled serial true said) older o all = raise-traced start _ serial _ (aged-quiet start older _ all (Settled serial true said) refl refl refl refl)
+step-traced start (Settled serial false said) older o all = close-traced start _ _ _ _ (aged-quiet start older _ all (Settled serial false said) refl refl refl refl)
 
 pub all-traced : (start : ℕ) (h : List Item) → AllOwes start h → AllTraced start h (notebook start h .book)
 unfolding notebook

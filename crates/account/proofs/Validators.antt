@@ -1,187 +1,161 @@
--- The clauses of the validators and of finish: what the answers say is what was done to the table. Assumes nothing.
-use mathlib.Core.Path.{_≡_, refl, ap₂}
-use mathlib.Core.Bool.{Bool, true, false, not, _&&_}
+-- The validators: what their answers say is what they did to the table. Assumes nothing.
+use mathlib.Core.Path.{_≡_, refl, sym, ap₂, _∙_}
+use mathlib.Core.Bool.{Bool, true, false, _||_}
 use mathlib.Core.List.{List, [], _∷_, _++_}
 use Prim.Native.Nat.{ℕ, _+_}
 use native.Mathlib.Omega.{arith}
-use lib.Dec.{eqb, leb}
-use Rattle.protocol.specs.Bytes.{isEmpty, same, ascii}
-use Rattle.protocol.specs.Tickets.{aWaiting, iouText, deepest}
+use borrow.Author.Tests.{eq-eqb}
+use lib.Dec.{eqb}
+use Rattle.protocol.specs.Bytes.{ascii, isEmpty, same}
+use Rattle.protocol.specs.Tickets.{aWaiting, iouText}
 use Rattle.protocol.specs.Records.{Rec, nameOf}
 use Rattle.protocol.specs.Table.{Table, recAt}
-use Rattle.protocol.specs.Register.{callbackOf}
-use Rattle.protocol.specs.Request.{fromQuery, present}
-use Rattle.protocol.specs.Answers.{Code, InvalidRequest, InvalidTicket, InvalidService, YesNo, Success, Failure, CallbackTo, replyText, replyAnswer, successText}
-use Rattle.protocol.specs.Steps.{Brought, Step, step, put, remove, roomFor, newRec, ticketSlot, waitingSlot, chainOf, isPlain, failed, proxyParent, waitingWith, waitingStep, grants}
-use Rattle.protocol.specs.declared.Path.the-variants as path
+use Rattle.protocol.specs.Request.{Malformed, Given, Shown}
+use Rattle.protocol.specs.Answers.{Code, InvalidRequest, InvalidTicket, CallbackTo, failureText, inResponse, replyText, replyAnswer}
+use Rattle.protocol.specs.Steps.{Brought, Step, step, put, remove, newRec, newWaiting, ticketSlot, successOf, failed, proxyParent, waitingWith, validate}
 use Rattle.protocol.specs.declared.Validator.{Validator}
 use Rattle.protocol.specs.declared.Validator.the-variants as validator
-use Rattle.protocol.proofs.Laws.{both}
-use Rattle.protocol.proofs.Added.{Room, room-one}
-use Rattle.account.specs.History.{Text, Told}
-use Rattle.account.specs.Clauses.{outOfPlace, unsigned, meant, burntAt, leftAt, userOf, sinceOf, raisedAt, accepting, judging, settling}
-use Rattle.account.specs.Reading.{Item, Burnt, CalledBack, readValidator, readFinish}
-use Rattle.account.specs.Notebook.{notebook}
-use Rattle.account.proofs.Base.{fork}
+use Rattle.protocol.proofs.Added.{Room}
+use Rattle.protocol.proofs.Courses.{AcceptCourse, plainly, calls, tells as tellsAll, RuledCourse, burns, accepts, ShownCourse, lacks, none, spends, shown-course}
+use Rattle.account.specs.History.{Text}
+use Rattle.account.specs.Reading.{Item, Burnt, Welcomed, CalledBack, carries, tells, callsBack, readValidator}
+use Rattle.account.proofs.Ledger.{notebook}
+use Rattle.account.specs.Truth.{known}
+use Rattle.account.specs.Account.{looksGood}
+use Rattle.account.proofs.Base.{clash, some-slot}
 use Rattle.account.proofs.Sim.{on, alive}
 use Rattle.account.proofs.Reached.{Reached, RightLine}
-use Rattle.account.proofs.Items.{reach-unburnt, right-line, reach-welcome, reach-callback, reach-refused}
-use Rattle.account.proofs.Rules.{taken, marked, for-service, reach-burnt, accepted-left, names-user, names-since, settled-owes, reach-raised}
+use Rattle.account.proofs.Items.{reach-unburnt, reach-burn, right-line, welcome-is, since-told, reach-welcome, reach-callback}
+use Rattle.account.proofs.Rules.{proxy-in-place, renew-wants-mark, for-its-service, accepted-left}
 use Rattle.account.proofs.Texts.{pgt-read, iou-read}
+use Rattle.account.proofs.Paths.{nameFor, among-validators, not-proxy, yes-only-at-validate, proxies-only-there}
 use Rattle.account.proofs.Counts.{Ok, ok-by}
-use Rattle.account.specs.Account.{says, carriesTicket}
 use Rattle.account.proofs.LoginGet.{new-letters}
 
-module _ (start : ℕ) (h : List Item) (t : Table) (R : Reached start h t) (v : Validator) (q : Text) (g : Brought) where
-  abbrev Goes : Step → Type 0
-  Goes s = Ok start h (path.Validate v) (readValidator v q (replyAnswer (s .reply)) (replyText (s .reply))) s
+-- a failure says so, by its result and by its bytes
+record Fails (v : Validator) (code : Code) : Type 0 where
+  no-ticket : carries (replyAnswer (failed v code)) ≡ false
+  no-success : tells (replyAnswer (failed v code)) ≡ false
+  no-callback : callsBack (replyAnswer (failed v code)) ≡ false
+  bytes : looksGood (replyText (failed v code)) ≡ false
 
-  abbrev ticket : Text
-  ticket = fromQuery "ticket" q
+refusal-is-frank : (v : Validator) (code : Code) → Fails v code
+unfolding replyAnswer replyText failureText inResponse same
+refusal-is-frank validator.Plain code = record { no-ticket = refl; no-success = refl; no-callback = refl; bytes = refl }
+refusal-is-frank validator.Service code = record { no-ticket = refl; no-success = refl; no-callback = refl; bytes = refl }
+refusal-is-frank validator.Proxy code = record { no-ticket = refl; no-success = refl; no-callback = refl; bytes = refl }
 
-  abbrev service : Text
-  service = fromQuery "service" q
+module _ (start : ℕ) (h : List Item) (t : Table) (R : Reached start h t) (v : Validator) (g : Brought) where
+  abbrev at : Text
+  at = nameFor v
 
-  abbrev url : Text
-  url = fromQuery "pgtUrl" q
+  -- a failure, after which these items are said that issue, accept and tell nothing
+  failed-ok : (t′ : Table) (code : Code) (items : List Item) → Reached start (items ++ h) t′ → known start (items ++ h) .issued ≡ known start h .issued → known start (items ++ h) .accepted ≡ known start h .accepted
+      → known start (items ++ h) .successful ≡ known start h .successful → Ok start h at items (step t′ (failed v code))
+  failed-ok t′ code items R′ i a w =
+      let f = refusal-is-frank v code in
+      record {
+        reached = R′;
+        issues = rw (f .no-ticket, f .no-success, not-proxy v, i) (omega arith);
+        accepts = rw (f .no-success, f .no-callback, among-validators v, a) (omega arith);
+        wins = rw (f .no-success, among-validators v, w) (omega arith);
+        frank = λ x y. f .bytes;
+      }
 
-  abbrev renew : Bool
-  renew = present "renew" q
+  -- service and ticket are there
+  module _ (a : Shown) (renew : Bool) (renew-is : renew ≡ a .renew) where
+    abbrev Goes : Step → Type 0
+    Goes s = Ok start h at (readValidator at renew a (replyAnswer (s .reply)) (replyText (s .reply))) s
 
-  -- a failure burns the ticket
-  failure-said : (v : Validator) (code : Code) → readValidator v q (replyAnswer (failed v code)) (replyText (failed v code)) ≡ Burnt ticket ∷ []
-  unfolding replyAnswer replyText readValidator
-  failure-said validator.Plain code = refl
-  failure-said validator.Service code = refl
-  failure-said validator.Proxy code = refl
+    module _ (there : (isEmpty (a .service) || isEmpty (a .ticket)) ≡ false) where
+      -- a failure burns the ticket
+      burnt-ok : (t′ : Table) (code : Code) → Reached start (Burnt (a .ticket) ∷ h) t′ → Goes (step t′ (failed v code))
+      unfolding readValidator known
+      burnt-ok t′ code R′ =
+          let f = refusal-is-frank v code in
+          ok-by start h at _ (Burnt (a .ticket) ∷ []) _ (rw (there, f .no-success, f .no-callback)) (failed-ok t′ code (Burnt (a .ticket) ∷ []) R′ refl refl refl)
 
-  failure-counts : (v : Validator) (code : Code) → says (replyAnswer (failed v code)) ≡ false
-  unfolding replyAnswer
-  failure-counts validator.Plain code = refl
-  failure-counts validator.Service code = refl
-  failure-counts validator.Proxy code = refl
+      -- the ticket in slot k is shown
+      module _ (e : eqb (ticketSlot (a .ticket) t) 0 ≡ false) where
+        abbrev k : ℕ
+        k = ticketSlot (a .ticket) t
 
-  failure-carries : (v w : Validator) (code : Code) → carriesTicket (path.Validate w) (replyAnswer (failed v code)) ≡ false
-  unfolding replyAnswer
-  failure-carries validator.Plain w code = refl
-  failure-carries validator.Service w code = refl
-  failure-carries validator.Proxy w code = refl
+        abbrev r : Rec
+        r = recAt k (t .slots)
 
-  failed-ok : (t′ : Table) (code : Code) → Reached start (Burnt ticket ∷ h) t′ → Goes (step t′ (failed v code))
-  failed-ok t′ code R′ =
-      ok-by start h (path.Validate v) _ (Burnt ticket ∷ []) _ (failure-said v code)
-      (record { reached = R′; issues = rw (failure-carries v v code); accepts-eq = rw (failure-counts v code) })
+        -- it is accepted, and leaves x
+        module _ (right : RightLine at renew (a .service) (on (R .tied .A) k .e)) (x : Rec) (dead : alive (notebook start h .clock) x ≡ false) where
+          abbrev t′ : Table
+          t′ = put k x t
 
-  -- the ticket in slot k is shown
-  module _ (e : eqb (ticketSlot (fromQuery "ticket" q) t) 0 ≡ false) where
-    abbrev k : ℕ
-    k = ticketSlot (fromQuery "ticket" q) t
+          -- yes or success
+          welcome-ok : (s : Step) (said : Text) → s .table ≡ t′ → replyText (s .reply) ≡ said → carries (replyAnswer (s .reply)) ≡ false → tells (replyAnswer (s .reply)) ≡ true
+              → Reached start (Welcomed at renew (a .ticket) (a .service) said ∷ h) t′ → Goes s
+          unfolding readValidator known
+          welcome-ok s said table-is said-is bare yes-said R′ =
+              ok-by start h at _ (Welcomed at renew (a .ticket) (a .service) said ∷ []) s (rw (there, yes-said, said-is))
+              (record {
+                reached = rw table-is R′;
+                issues = rw (bare, not-proxy v) (omega arith);
+                accepts = rw (yes-said, among-validators v) (omega arith);
+                wins = rw (yes-said, among-validators v) (omega arith);
+                frank = λ y z. absurd (clash {b = true} refl (rw yes-said at z));
+              })
 
-    abbrev r : Rec
-    r = recAt k (t .slots)
+          abbrev waiting : Rec
+          waiting = newWaiting (r .mark) (proxyParent r) (r .session) (a .pgtUrl) (g .random) t′
 
-    burnt-ok : (code : Code) → Goes (step (burntAt k t) (failed v code))
-    burnt-ok code = failed-ok (burntAt k t) code (reach-burnt start h t R ticket e)
+          callback-said : readValidator at renew a (replyAnswer (CallbackTo (waiting .text) (nameOf waiting) (iouText (waiting .iou)) (waiting .serial))) (replyText (CallbackTo (waiting .text) (nameOf waiting) (iouText (waiting .iou)) (waiting .serial)))
+              ≡ CalledBack at renew (a .ticket) (a .service) (a .pgtUrl) (nameOf waiting) (iouText (waiting .iou)) (waiting .serial) ∷ []
+          unfolding replyAnswer replyText readValidator newRec
+          callback-said =
+              let l = new-letters aWaiting (r .mark) (proxyParent r) (r .session) (recAt (proxyParent r) (t′ .slots) .depth + 1) (a .pgtUrl) (g .random) t′ (omega arith) (omega arith) in
+              rw there
+              (ap₂ (λ (p : Text) (i : Text). CalledBack at renew (a .ticket) (a .service) (a .pgtUrl) p i (waiting .serial) ∷ []) (pgt-read (a .pgtUrl) (nameOf waiting) (iouText (waiting .iou)) l) (iou-read (a .pgtUrl) (nameOf waiting) (iouText (waiting .iou)) l))
 
-    -- it is accepted, and leaves x
-    module _ (right : RightLine v renew service (on (R .tied .A) k .e)) (x : Rec) (dead : alive (notebook start h .clock) x ≡ false) where
-      abbrev t′ : Table
-      t′ = put k x t
+          callback-ok : Room t′ → Goes (waitingWith waiting t′)
+          unfolding waitingWith replyAnswer known
+          callback-ok m =
+              ok-by start h at _ (CalledBack at renew (a .ticket) (a .service) (a .pgtUrl) (nameOf waiting) (iouText (waiting .iou)) (waiting .serial) ∷ []) _ callback-said
+              (record {
+                reached = reach-callback start h t R (a .ticket) e x dead m at renew (a .service) (a .pgtUrl) (g .random) right;
+                issues = rw (not-proxy v) (omega arith);
+                accepts = rw (among-validators v) (omega arith);
+                wins = rw (among-validators v) (omega arith);
+                frank = λ y z. absurd (clash {b = true} refl z);
+              })
 
-      plain-ok : isPlain v ≡ true → Goes (step t′ (YesNo true))
-      unfolding replyAnswer replyText readValidator
-      plain-ok z =
-          record {
-            reached = reach-welcome start h t R ticket e x dead v renew service (ascii "yes\n") right (rw z);
-            issues = refl;
-            accepts-eq = refl;
-          }
+          names-its-user : {s : Step} → AcceptCourse v (r .session) (proxyParent r) (r .mark) a g t′ s → Goes s
+          unfolding replyAnswer replyText
+          names-its-user (plainly z) =
+              welcome-ok _ (ascii "yes\n") refl refl refl refl (reach-welcome start h t R (a .ticket) e x dead at renew (a .service) (ascii "yes\n") right (rw (yes-only-at-validate v, z)))
+          names-its-user (calls z c) = callback-ok (c .room)
+          names-its-user (tellsAll z) =
+              welcome-ok _ (replyText (successOf (r .session) (r .mark) [] (proxyParent r) (t′ .slots))) refl refl refl refl
+              (reach-welcome start h t R (a .ticket) e x dead at renew (a .service) _ right (rw (yes-only-at-validate v, z, welcome-is start h t R (a .ticket) e x dead, since-told start h t R (a .ticket) e x dead)))
 
-      success-ok : isPlain v ≡ false → Goes (step t′ (Success (userOf r t′) (sinceOf r t′) (r .mark) [] (chainOf (proxyParent r) (t′ .slots))))
-      unfolding replyAnswer replyText readValidator
-      success-ok z =
-          record {
-            reached =
-                reach-welcome start h t R ticket e x dead v renew service (successText (userOf r t′) (sinceOf r t′) (r .mark) [] (chainOf (proxyParent r) (t′ .slots))) right
-                (rw (z, names-user start h t R ticket e x dead, names-since start h t R ticket e x dead));
-            issues = refl;
-            accepts-eq = refl;
-          }
+        burnt-or-rightful : {s : Step} → RuledCourse v k r a g (remove k t) s → Goes s
+        burnt-or-rightful (burns code) = burnt-ok (remove k t) code (reach-burn start h t R (a .ticket) e)
+        burnt-or-rightful (accepts c w) =
+            let l = accepted-left (notebook start h .clock) k r t in
+            names-its-user
+            (right-line start h t R (a .ticket) e at renew (a .service) (λ z. proxies-only-there v (proxy-in-place v a r c z)) (λ z. renew-wants-mark v a r c (sym renew-is ∙ z)) (for-its-service v a r c))
+            (l .rest) (l .dead) (rw (l .table-is) at w)
 
-      abbrev waiting : Rec
-      waiting = newRec aWaiting (r .mark) (proxyParent r) (r .session) (recAt (proxyParent r) (t′ .slots) .depth + 1) url (g .random) t′
+    -- service or ticket absent: nothing is spent
+    lacking : (isEmpty (a .service) || isEmpty (a .ticket)) ≡ true → Goes (step t (failed v InvalidRequest))
+    unfolding readValidator
+    lacking z = ok-by start h at _ [] _ (rw z) (failed-ok t InvalidRequest [] R refl refl refl)
 
-      callback-said : readValidator v q (replyAnswer (CallbackTo (waiting .text) (nameOf waiting) (iouText (waiting .iou)) (waiting .serial))) (replyText (CallbackTo (waiting .text) (nameOf waiting) (iouText (waiting .iou)) (waiting .serial)))
-          ≡ CalledBack v renew ticket service url (nameOf waiting) (iouText (waiting .iou)) (waiting .serial) ∷ []
-      unfolding replyAnswer replyText readValidator newRec
-      callback-said =
-          let l = new-letters aWaiting (r .mark) (proxyParent r) (r .session) (recAt (proxyParent r) (t′ .slots) .depth + 1) url (g .random) t′ (omega arith) (omega arith) in
-          ap₂ (λ (p : Text) (i : Text). CalledBack v renew ticket service url p i (waiting .serial) ∷ []) (pgt-read url (nameOf waiting) (iouText (waiting .iou)) l) (iou-read url (nameOf waiting) (iouText (waiting .iou)) l)
+    shown-is-spent : {s : Step} → ShownCourse v a g t s → Goes s
+    shown-is-spent (lacks z) = lacking z
+    shown-is-spent (none z e) = burnt-ok z t InvalidTicket (reach-unburnt start h t R (a .ticket) (eq-eqb (ticketSlot (a .ticket) t) 0 e))
+    shown-is-spent (spends z l c) = burnt-or-rightful z (some-slot (ticketSlot (a .ticket) t) (l .some)) c
 
-      callback-ok : Room t′ → Goes (waitingStep r url (g .random) t′)
-      unfolding waitingStep waitingWith replyAnswer
-      callback-ok m =
-          ok-by start h (path.Validate v) _ (CalledBack v renew ticket service url (nameOf waiting) (iouText (waiting .iou)) (waiting .serial) ∷ []) _ callback-said
-          (record { reached = reach-callback start h t R ticket e x dead m v renew service url (g .random) right; issues = refl; accepts-eq = refl })
+    pub given-ok : Goes (validate v (Given a) g t)
+    unfolding validate
+    given-ok = shown-is-spent (shown-course v a g t)
 
-      accept-ok : Goes (accepting v r url g t′)
-      unfolding accepting grants
-      accept-ok =
-          fork Goes (isPlain v) plain-ok
-          (λ z.
-          fork Goes (not (isEmpty url) && same url (callbackOf (r .text) (g .register)) && leb (recAt (proxyParent r) (t′ .slots) .depth + 1) deepest && roomFor 1 t′)
-          (λ y. callback-ok (room-one t′ (both (not (isEmpty url) && same url (callbackOf (r .text) (g .register)) && leb (recAt (proxyParent r) (t′ .slots) .depth + 1) deepest) (roomFor 1 t′) y .1)))
-          (λ y. success-ok z))
-
-    accepted-ok : RightLine v renew service (on (R .tied .A) k .e) → Goes (accepting v r url g (leftAt k r (remove k t)))
-    accepted-ok right = let l = accepted-left (notebook start h .clock) k r t in rw (l .table-is) (accept-ok right (l .rest) (l .dead))
-
-  pub judged-ok : Goes (judging v (ticketSlot (fromQuery "ticket" q) t) q g t)
-  unfolding judging
-  judged-ok =
-      fork Goes (eqb (ticketSlot ticket t) 0) (λ z. failed-ok t InvalidTicket (reach-unburnt start h t R ticket z))
-      (λ e.
-      fork Goes (outOfPlace v (recAt (ticketSlot ticket t) (t .slots))) (λ z. burnt-ok e InvalidTicket)
-      (λ p.
-      fork Goes (unsigned renew (recAt (ticketSlot ticket t) (t .slots))) (λ z. burnt-ok e InvalidTicket)
-      (λ m.
-      fork Goes (meant (recAt (ticketSlot ticket t) (t .slots)) service)
-      (λ s. accepted-ok e (right-line start h t R ticket e v renew service (taken v _ p) (marked renew _ m) (for-service _ service s)))
-      (λ z. burnt-ok e InvalidService))))
-
-  pub bad-ok : Ok start h (path.Validate v) [] (step t (failed v InvalidRequest))
-  bad-ok = record { reached = R; issues = rw (failure-carries v v InvalidRequest); accepts-eq = rw (failure-counts v InvalidRequest) }
-
--- finish
-module _ (start : ℕ) (h : List Item) (t : Table) (R : Reached start h t) (f : Told) where
-  abbrev F : Step → Type 0
-  F s = Reached start (readFinish f (replyAnswer (s .reply)) (replyText (s .reply)) ++ h) (s .table)
-
-  none-ok : F (step t (Failure InvalidTicket))
-  unfolding replyAnswer replyText readFinish
-  none-ok = R
-
-  module _ (e : eqb (waitingSlot (f .serial) t) 0 ≡ false) where
-    abbrev slot : ℕ
-    slot = waitingSlot (f .serial) t
-
-    abbrev waits : Rec
-    waits = recAt slot (t .slots)
-
-    settled-yes : f .outcome ≡ true → F (step (raisedAt slot waits t) (Success (userOf waits t) (sinceOf waits t) (waits .mark) (iouText (waits .iou)) (chainOf (waits .parent) (t .slots))))
-    unfolding replyAnswer replyText readFinish
-    settled-yes z =
-        rw z
-        (reach-raised start h t R (f .serial) e _
-        (settled-owes start h t R (f .serial) e true (successText (userOf waits t) (sinceOf waits t) (waits .mark) (iouText (waits .iou)) (chainOf (waits .parent) (t .slots))) refl))
-
-    settled-no : f .outcome ≡ false → F (step (remove slot t) (Success (userOf waits t) (sinceOf waits t) (waits .mark) [] (chainOf (waits .parent) (t .slots))))
-    unfolding replyAnswer replyText readFinish
-    settled-no z =
-        rw z
-        (reach-refused start h t R (f .serial) e _
-        (settled-owes start h t R (f .serial) e false (successText (userOf waits t) (sinceOf waits t) (waits .mark) [] (chainOf (waits .parent) (t .slots))) refl))
-
-  pub settled-ok : F (settling (waitingSlot (f .serial) t) (recAt (waitingSlot (f .serial) t) (t .slots)) (f .outcome) t)
-  unfolding settling
-  settled-ok = fork F (eqb (waitingSlot (f .serial) t) 0) (λ z. none-ok) (λ e. fork F (f .outcome) (settled-yes e) (settled-no e))
+  pub malformed-ok : Ok start h at [] (validate v Malformed g t)
+  unfolding validate
+  malformed-ok = failed-ok t InvalidRequest [] R refl refl refl

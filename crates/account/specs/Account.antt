@@ -1,187 +1,158 @@
--- Demand 3: the account of a table's whole life.
+-- Demand 3: the account of a table's whole life. The theorem `account` gives the record at the end of this file for every run.
+--
+-- Where each word comes from:
+-- * From result fields alone: how many tickets are issued, accepted and told successful, `issuedBy`, `acceptedBy`, `successBy`; and which answers
+--   must not look like a success, `Frank`.
+-- * From bytes: which ticket was issued, by the places in Reading; what a panel sees, `looksGood`; the user and the proxies of a document,
+--   `textsIn`, read between tags and unescaped as a panel does.
+-- * From the notebook, kept from the history alone: which tickets are held, burnt, ended and expired, `tally`; that an accepted ticket was held just
+--   then, and that a grant still waited.
+-- * From Truth, told from the history alone and without the notebook: where a ticket comes from, `known .origin`, and the callback of a serial,
+--   `known .called`: service, user, sign-on time, chain, credentials.
+-- * From the table: the tickets that wait, `waitingIn`.
+--
+-- Words of its own: the paths of the validators and of proxy, `renew`, credentials and whose they are, a change of user, chains, what burns a
+-- ticket, documents as a panel reads them.
+-- Words that it shares with the server, so that an error in them is an error in both: how a request is read into its parameters, and when it is
+-- malformed (`requestOf`, `pathPart`, `queryPart`); the register (`decodeRegister`, `unknownService`); the record of a table (`decodeTable`, `nameOf`,
+-- `live`); lifetimes (`lifetime`); the wording of the success document besides user and proxies (`successText`: date, mark, IOU); the numbers of a
+-- result's cases (`numberOf`, `serialOf`); and the byte helpers `same`, `among`, `cuts`, `part`, `upTo`.
 use mathlib.Core.Path.{_≡_}
-use mathlib.Core.Bool.{Bool, true, false, _&&_}
+use mathlib.Core.Bool.{Bool, true, false, _&&_, _||_}
 use mathlib.Core.List.{List, [], _∷_}
-use Prim.Native.Nat.{ℕ, _+_, _≤_}
-use Rattle.protocol.specs.Bytes.{if, ascii, same}
-use Rattle.protocol.specs.Records.{Rec, live}
+use Prim.Native.Nat.{ℕ, zero, suc, _+_, _≤_}
+use lib.Dec.{eqb}
+use lib.ListN.{length, take, drop, getD}
+use Rattle.protocol.specs.Bytes.{if, ascii, same, among, cuts}
+use Rattle.protocol.specs.Records.{Rec, nameOf, live}
 use Rattle.protocol.specs.Table.{decodeTable}
-use Rattle.protocol.specs.Request.{pathPart, pathNamed}
+use Rattle.protocol.specs.Request.{pathPart}
 use Rattle.protocol.specs.Answers.{successText}
-use Rattle.protocol.specs.Steps.{isPlain, takesProxies}
 use Rattle.protocol.specs.declared.Answer.{Answer}
-use Rattle.protocol.specs.declared.Answer.the-variants as answer
-use Rattle.protocol.specs.declared.Path.{Path}
-use Rattle.protocol.specs.declared.Path.the-variants as path
-use Rattle.protocol.specs.declared.Validator.{Validator}
 use Rattle.account.specs.History.{Text, Call, ask, tell, Event}
-use Rattle.account.specs.Reading.{Item, Passed, Showed, Spent, Ended, Opened, Issued, Proxied, Burnt, Welcomed, CalledBack, Settled, trailOf}
-use Rattle.account.specs.Notebook.{notebook, tally, isTicket, isBurnt, isEnded, isExpired}
-use Rattle.account.specs.Truth.{Origin, Granting, spentLive, originOf, calledOf}
+use Rattle.account.specs.Reading.{Item, Passed, Showed, SignedOn, Ended, Opened, Issued, Proxied, Burnt, Welcomed, CalledBack, Settled, carries, tells, callsBack, saidIn, trailOf}
+use Rattle.account.specs.Notebook.{held, accepted, burnt, ended, expired, cameTo, Notebook, isTicket, isTicketLine, isWaitingLine, isFound, look, notebook, tally}
+use Rattle.account.specs.Truth.{Origin, Granting, known, count}
 
--- Counted straight from the answers
+-- Counted straight from the results
 
--- an answer that carries a service ticket: a redirect with a ticket; or a proxy ticket: success of proxy
-abbrev pub carriesTicket : Path → Answer → Bool
-carriesTicket p answer.Nothing = false
-carriesTicket p (answer.Page status) = false
-carriesTicket p (answer.Redirect ticket) = ticket
-carriesTicket p (answer.Text b) = false
-carriesTicket path.Login (answer.Xml success) = false
-carriesTicket path.Logout (answer.Xml success) = false
-carriesTicket (path.Validate v) (answer.Xml success) = false
-carriesTicket path.Proxy (answer.Xml success) = success
-carriesTicket path.Unknown (answer.Xml success) = false
-carriesTicket p (answer.Callback n) = false
-
--- a validator that answers yes, success or callback
-abbrev pub says : Answer → Bool
-says answer.Nothing = false
-says (answer.Page status) = false
-says (answer.Redirect ticket) = false
-says (answer.Text b) = b
-says (answer.Xml success) = success
-says (answer.Callback n) = true
-
-abbrev pub accepts : Path → Answer → Bool
-accepts path.Login r = false
-accepts path.Logout r = false
-accepts (path.Validate v) r = says r
-accepts path.Proxy r = false
-accepts path.Unknown r = false
+-- the validators, by name
+abbrev pub validators : List Text
+validators = ascii "/cas/validate" ∷ ascii "/cas/serviceValidate" ∷ ascii "/cas/proxyValidate" ∷ []
 
 abbrev pub one : Bool → ℕ
 one true = 1
 one false = 0
 
+-- a redirect with a ticket, or success of proxy
 unfoldable pub issuedBy : Call → Answer → ℕ
-issuedBy (ask a) r = one (carriesTicket (pathNamed (pathPart (a .target))) r)
+issuedBy (ask a) r = one (carries r || (same (pathPart (a .target)) (ascii "/cas/proxy") && tells r))
 issuedBy (tell f) r = 0
 
+-- a validator that answers yes, success or callback
 unfoldable pub acceptedBy : Call → Answer → ℕ
-acceptedBy (ask a) r = one (accepts (pathNamed (pathPart (a .target))) r)
+acceptedBy (ask a) r = one (among (pathPart (a .target)) validators && (tells r || callsBack r))
 acceptedBy (tell f) r = 0
 
--- tickets issued and accepted in a history; a refused call answers nothing
-unfoldable pub issued : List Event → ℕ
-issued [] = 0
-issued (e ∷ es) = issuedBy (e .call) (e .outcome .answer) + issued es
+-- a success answer: of a validator that answers yes or success, or of finish
+unfoldable pub successBy : Call → Answer → ℕ
+successBy (ask a) r = one (among (pathPart (a .target)) validators && tells r)
+successBy (tell f) r = one (tells r)
 
-unfoldable pub accepted : List Event → ℕ
-accepted [] = 0
-accepted (e ∷ es) = acceptedBy (e .call) (e .outcome .answer) + accepted es
+-- in a history; a refused call answers nothing
+unfoldable pub sumOf : (Call → Answer → ℕ) → List Event → ℕ
+sumOf by [] = 0
+sumOf by (e ∷ es) = by (e .call) (e .outcome .answer) + sumOf by es
 
--- The same, counted over all that was said: the trail leaves none of these answers out
+-- Read from the table: the tickets that wait in it, live records of kind 3 and 4 whose text passes a test
 
-abbrev pub issuesIn : Item → ℕ
-issuesIn (Passed time) = 0
-issuesIn (Showed lt) = 0
-issuesIn (Spent lt) = 0
-issuesIn (Ended cookie) = 0
-issuesIn (Opened cookie user signed lt) = 0
-issuesIn (Issued cookie service ticket signed lt) = 1
-issuesIn (Proxied pgt target ticket) = 1
-issuesIn (Burnt ticket) = 0
-issuesIn (Welcomed v renew ticket service said) = 0
-issuesIn (CalledBack v renew ticket service url pgt iou serial) = 0
-issuesIn (Settled serial outcome said) = 0
+unfoldable pub waitingAmong : (Text → Bool) → ℕ → List Rec → ℕ
+waitingAmong test clock [] = 0
+waitingAmong test clock (r ∷ rs) = one (isTicket (r .kind) && test (nameOf r) && live clock r) + waitingAmong test clock rs
 
-abbrev pub acceptsIn : Item → ℕ
-acceptsIn (Passed time) = 0
-acceptsIn (Showed lt) = 0
-acceptsIn (Spent lt) = 0
-acceptsIn (Ended cookie) = 0
-acceptsIn (Opened cookie user signed lt) = 0
-acceptsIn (Issued cookie service ticket signed lt) = 0
-acceptsIn (Proxied pgt target ticket) = 0
-acceptsIn (Burnt ticket) = 0
-acceptsIn (Welcomed v renew ticket service said) = 1
-acceptsIn (CalledBack v renew ticket service url pgt iou serial) = 1
-acceptsIn (Settled serial outcome said) = 0
+unfoldable pub waitingIn : (Text → Bool) → Text → ℕ
+waitingIn test table = waitingAmong test (decodeTable table .clock) (decodeTable table .slots)
 
-abbrev pub sumIn : (Item → ℕ) → List Item → ℕ
-sumIn f [] = 0
-sumIn f (i ∷ is) = f i + sumIn f is
+-- What a panel sees: the bytes
 
--- Read from the table
+abbrev pub successStart : Text
+successStart = ascii "<cas:serviceResponse xmlns:cas=\"http://www.yale.edu/tp/cas\">\n  <cas:authenticationSuccess>"
 
--- the tickets that wait in it: live records of kind 3 and 4
-unfoldable pub waitingAmong : ℕ → List Rec → ℕ
-waitingAmong clock [] = 0
-waitingAmong clock (r ∷ rs) = one (isTicket (r .kind) && live clock r) + waitingAmong clock rs
+-- bytes that begin with `yes`, or as the success document does
+abbrev pub looksGood : Text → Bool
+looksGood said = same (take 3 said) (ascii "yes") || same (take (length successStart) said) successStart
 
-unfoldable pub waitingIn : Text → ℕ
-waitingIn table = waitingAmong (decodeTable table .clock) (decodeTable table .slots)
+-- the answer of a validator or of finish that does not say success does not look like one; a callback does not go to the panel
+unfoldable pub Frank : Call → Answer → Text → Type 0
+Frank (ask a) r said = among (pathPart (a .target)) validators ≡ true → (tells r || callsBack r) ≡ false → looksGood said ≡ false
+Frank (tell f) r said = tells r ≡ false → looksGood said ≡ false
 
--- Success answers
+unfoldable pub AllFrank : List Event → Type 0
+AllFrank [] = Unit {0}
+AllFrank (e ∷ es) = Frank (e .call) (e .outcome .answer) (saidIn e) × AllFrank es
 
--- how many success answers a ticket got: yes or success of a validator that was shown it, or the success of finish for the callback
--- of the call that accepted it
-abbrev pub wonHere : ℕ → Item → List Item → Text → Bool
-wonHere start (Passed time) older x = false
-wonHere start (Showed lt) older x = false
-wonHere start (Spent lt) older x = false
-wonHere start (Ended cookie) older x = false
-wonHere start (Opened cookie user signed lt) older x = false
-wonHere start (Issued cookie service ticket signed lt) older x = false
-wonHere start (Proxied pgt target ticket) older x = false
-wonHere start (Burnt ticket) older x = false
-wonHere start (Welcomed v renew ticket service said) older x = same ticket x
-wonHere start (CalledBack v renew ticket service url pgt iou serial) older x = false
-wonHere start (Settled serial outcome said) older x = same (calledOf start older serial .ticket) x
+-- the byte that `&` and what follows stand for, and how long that is
+abbrev pub entity : Text → ℕ
+entity s = if (eqb (getD s 0 0) 97) 38 (if (eqb (getD s 0 0) 108) 60 (if (eqb (getD s 0 0) 103) 62 (if (eqb (getD s 0 0) 113) 34 39)))
 
-unfoldable pub successes : ℕ → List Item → Text → ℕ
-successes start [] x = 0
-successes start (i ∷ older) x = one (wonHere start i older x) + successes start older x
+abbrev pub entityLength : Text → ℕ
+entityLength s = if (eqb (getD s 0 0) 113) 5 (if (eqb (getD s 1 0) 116) 3 4)
 
--- how many times a ticket was accepted
-abbrev pub takenHere : Item → Text → Bool
-takenHere (Passed time) x = false
-takenHere (Showed lt) x = false
-takenHere (Spent lt) x = false
-takenHere (Ended cookie) x = false
-takenHere (Opened cookie user signed lt) x = false
-takenHere (Issued cookie service ticket signed lt) x = false
-takenHere (Proxied pgt target ticket) x = false
-takenHere (Burnt ticket) x = false
-takenHere (Welcomed v renew ticket service said) x = same ticket x
-takenHere (CalledBack v renew ticket service url pgt iou serial) x = same ticket x
-takenHere (Settled serial outcome said) x = false
+-- a text as it was before it was escaped, of which the first k bytes belong to a byte before
+unfoldable pub unescaped : ℕ → Text → Text
+unescaped k [] = []
+unescaped zero (b ∷ s) = if (eqb b 38) (entity s) b ∷ unescaped (if (eqb b 38) (entityLength s) 0) s
+unescaped (suc k) (b ∷ s) = unescaped k s
 
-unfoldable pub acceptances : List Item → Text → ℕ
-acceptances [] x = 0
-acceptances (i ∷ older) x = one (takenHere i x) + acceptances older x
+-- the texts of all elements of a name, each from its tag to the next `<`
+unfoldable pub textsIn : Text → List Text → List Text
+textsIn tag [] = []
+textsIn tag (p ∷ ps) = if (same (take (length tag) p) tag) (unescaped 0 (drop (length tag) p) ∷ textsIn tag ps) (textsIn tag ps)
 
--- an accepted ticket: it was issued, to this very service; under renew by a call with accepted credentials; a proxy ticket only where
--- they are taken
-pub record Rightful (v : Validator) (renew : Bool) (service : Text) (o : Origin) : Type 0 where
+-- a document tells of one user and a chain of proxies
+pub record Tells (user : Text) (chain : List Text) (said : Text) : Type 0 where
+  pub its-user : textsIn (ascii "cas:user>") (cuts 60 said) ≡ user ∷ []
+  pub its-chain : textsIn (ascii "cas:proxy>") (cuts 60 said) ≡ chain
+
+-- What is owed for each thing said, by all that was said before
+
+-- an accepted ticket: it was held just then; it was issued, to this very service; under renew by a call with accepted credentials; a proxy
+-- ticket only by proxyValidate
+pub record Rightful (path : Text) (renew : Bool) (ticket service : Text) (o : Origin) (b : Notebook) : Type 0 where
+  pub was-held : isFound (look (isTicketLine ticket) (b .book)) ≡ true
   pub issued : o .issued ≡ true
   pub its-service : o .service ≡ service
   pub primary : renew ≡ true → o .credentials ≡ true
-  pub allowed : o .proxied ≡ true → takesProxies v ≡ true
+  pub allowed : o .proxied ≡ true → path ≡ ascii "/cas/proxyValidate"
 
--- what a validator says of it: yes, or the user, the sign-on time, the mark, which is 1 where credentials came with the issuing call, and
--- the chain
-abbrev pub welcome : Validator → Origin → Text
-welcome v o = if (isPlain v) (ascii "yes\n") (successText (o .user) (o .since) (one (o .credentials)) [] (o .chain))
+-- what a validator says of it: validate `yes`, the others a document with the user, the sign-on time, the mark, which is 1 where credentials
+-- came with the issuing call, and the chain
+pub record Welcome (path : Text) (o : Origin) (said : Text) : Type 0 where
+  pub bytes : said ≡ if (same path (ascii "/cas/validate")) (ascii "yes\n") (successText (o .user) (o .since) (one (o .credentials)) [] (o .chain))
+  pub telling : same path (ascii "/cas/validate") ≡ false → Tells (o .user) (o .chain) said
 
--- what finish says of the callback of a serial: the same of the ticket accepted, and the IOU that was shown only where the outcome was yes
-abbrev pub settlement : Bool → Granting → Text
-settlement outcome g = successText (g .user) (g .since) (one (g .credentials)) (if outcome (g .iou) []) (g .chain)
+-- what finish says of the callback of a serial, whose grant still waited: the same of the ticket accepted, and the IOU that was shown only where
+-- the outcome was yes
+pub record Settlement (serial : ℕ) (outcome : Bool) (said : Text) (g : Granting) (b : Notebook) : Type 0 where
+  pub waited : isFound (look (isWaitingLine serial) (b .book)) ≡ true
+  pub made : g .made ≡ true
+  pub bytes : said ≡ successText (g .user) (g .since) (one (g .credentials)) (if outcome (g .iou) []) (g .chain)
+  pub telling : Tells (g .user) (g .chain) said
 
--- what is owed for each thing said, by all that was said before; a session is opened by accepted credentials only
+-- a session is opened by accepted credentials only
 abbrev pub Owed : ℕ → Item → List Item → Type 0
 Owed start (Passed time) older = Unit {0}
 Owed start (Showed lt) older = Unit {0}
-Owed start (Spent lt) older = Unit {0}
+Owed start (SignedOn cookie c) older = Unit {0}
 Owed start (Ended cookie) older = Unit {0}
-Owed start (Opened cookie user signed lt) older = (signed ≡ true) × (spentLive start older lt ≡ true)
-Owed start (Issued cookie service ticket signed lt) older = Unit {0}
+Owed start (Opened cookie c) older = (c .given ≡ true) × (known start older .login (c .lt) .spentLive ≡ true)
+Owed start (Issued cookie service ticket c) older = Unit {0}
 Owed start (Proxied pgt target ticket) older = Unit {0}
 Owed start (Burnt ticket) older = Unit {0}
-Owed start (Welcomed v renew ticket service said) older = Rightful v renew service (originOf start older ticket) × (said ≡ welcome v (originOf start older ticket))
-Owed start (CalledBack v renew ticket service url pgt iou serial) older = Rightful v renew service (originOf start older ticket)
-Owed start (Settled serial outcome said) older = (calledOf start older serial .made ≡ true) × (said ≡ settlement outcome (calledOf start older serial))
+Owed start (Welcomed path renew ticket service said) older =
+    Rightful path renew ticket service (known start older .origin ticket) (notebook start older) × Welcome path (known start older .origin ticket) said
+Owed start (CalledBack path renew ticket service url pgt iou serial) older = Rightful path renew ticket service (known start older .origin ticket) (notebook start older)
+Owed start (Settled serial outcome said) older = Settlement serial outcome said (known start older .called serial) (notebook start older)
 
 unfoldable pub Honest : ℕ → List Item → Type 0
 Honest start [] = Unit {0}
@@ -189,15 +160,22 @@ Honest start (i ∷ older) = Owed start i older × Honest start older
 
 -- the account of a history h since the format at the time start, beside the table's bytes b after it
 pub record Account (start : ℕ) (h : List Event) (b : Text) : Type 0 where
-  -- no issue and no acceptance is left unread
-  pub issues-read : issued h ≡ sumIn issuesIn (trailOf h)
-  pub accepts-read : accepted h ≡ sumIn acceptsIn (trailOf h)
-  -- every ticket issued is accounted for
-  pub balance :
-      issued h
-      ≡ accepted h + tally isBurnt (notebook start (trailOf h) .book) + tally isEnded (notebook start (trailOf h) .book) + tally isExpired (notebook start (trailOf h) .book) + waitingIn b
-  -- no ticket is accepted twice, and none gets two success answers
-  pub accepted-once : (x : Text) → acceptances (trailOf h) x ≤ 1
-  pub once : (x : Text) → successes start (trailOf h) x ≤ 1
+  -- nothing is left unread: the results issue, accept and succeed as often as what was read of them
+  pub issues-read : sumOf issuedBy h ≡ length (known start (trailOf h) .issued)
+  pub accepts-read : sumOf acceptedBy h ≡ length (known start (trailOf h) .accepted)
+  pub successes-read : sumOf successBy h ≡ length (known start (trailOf h) .successful)
+  -- bytes that look like a success are counted as one
+  pub frank : AllFrank h
+  -- every ticket issued is accounted for, all together and each alone: whichever texts are counted
+  pub balance : (test : Text → Bool)
+      → count test (known start (trailOf h) .issued)
+      ≡ count test (known start (trailOf h) .accepted) + tally test (cameTo burnt) (notebook start (trailOf h) .book) + tally test (cameTo ended) (notebook start (trailOf h) .book) + tally test (cameTo expired) (notebook start (trailOf h) .book) + waitingIn test b
+  -- the notebook's accepted tickets are those, and its held ones are those that wait in the table
+  pub accepted-noted : (test : Text → Bool) → count test (known start (trailOf h) .accepted) ≡ tally test (cameTo accepted) (notebook start (trailOf h) .book)
+  pub waiting-noted : (test : Text → Bool) → waitingIn test b ≡ tally test (cameTo held) (notebook start (trailOf h) .book)
+  -- no ticket is issued twice or accepted twice, and none gets two success answers
+  pub issued-once : (x : Text) → count (λ (y : Text). same y x) (known start (trailOf h) .issued) ≤ 1
+  pub accepted-once : (x : Text) → count (λ (y : Text). same y x) (known start (trailOf h) .accepted) ≤ 1
+  pub once : (x : Text) → count (λ (y : Text). same y x) (known start (trailOf h) .successful) ≤ 1
   -- every acceptance and every success answer is right: service, credentials, user, sign-on time, mark and chain
   pub honest : Honest start (trailOf h)

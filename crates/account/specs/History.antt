@@ -10,7 +10,7 @@ abbrev pub Text : Type 0
 Text = List ℕ
 
 -- a call of answer as the host makes it; its table is the one that the calls before it have left
-pub record Asked : Type 0 where
+pub record AnswerCall : Type 0 where
   pub register : Text
   pub method : Method
   pub target : Text
@@ -23,15 +23,15 @@ pub record Asked : Type 0 where
   pub cookieOut : Text
 
 -- a call of finish
-pub record Told : Type 0 where
+pub record FinishCall : Type 0 where
   pub serial : ℕ
   pub outcome : Bool
   pub time : ℕ
   pub out : Text
 
 pub data Call : Type 0 where
-  ask : Asked → Call
-  tell : Told → Call
+  ask : AnswerCall → Call
+  tell : FinishCall → Call
 
 -- what the call gives, by the same functions that the contracts of the public calls cite
 unfoldable pub served : Call → Text → Result

@@ -4,4 +4,3 @@ pub mod Reading
 pub mod Notebook
 pub mod Truth
 pub mod Account
-pub mod Clauses

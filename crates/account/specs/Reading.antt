@@ -1,20 +1,36 @@
--- Reading one call and its answer: what they say of tickets, by the request's own words and by the known places of the answer's bytes.
--- Nothing is remembered from one call to the next, and no table is read.
-use mathlib.Core.Bool.{Bool, true, false, _||_}
+-- Reading one call and its answer: what they say of tickets, by the request's own words, by the result and by the known places of the answer's
+-- bytes. Nothing is remembered from one call to the next, and no table is read.
+use mathlib.Core.Bool.{Bool, false, _&&_, _||_, not}
 use mathlib.Core.List.{List, [], _∷_, _++_}
 use Prim.Native.Nat.{ℕ, _+_}
 use lib.Dec.{eqb}
 use lib.ListN.{length, take, drop}
-use Rattle.protocol.specs.Bytes.{if, ascii, isEmpty, same, part, upTo}
-use Rattle.protocol.specs.Request.{pathPart, queryPart, pathNamed, bodyNames, validatorNames, malformed, fromQuery, fromBody, present}
+use Rattle.protocol.specs.Bytes.{if, ascii, isEmpty, same, part, upTo, cuts}
+use Rattle.protocol.specs.Register.{decodeRegister}
+use Rattle.protocol.specs.Request.{Malformed, Given, Posted, Shown, Request, NoPath, NotTaken, LoginGet, LoginPost, Logout, Validate, Proxy, requestOf, pathPart, queryPart}
+use Rattle.protocol.specs.Answers.{numberOf, serialOf}
+use Rattle.protocol.specs.Steps.{unknownService}
 use Rattle.protocol.specs.declared.Answer.{Answer}
 use Rattle.protocol.specs.declared.Answer.the-variants as answer
-use Rattle.protocol.specs.declared.Method.{Method}
-use Rattle.protocol.specs.declared.Method.the-variants as method
-use Rattle.protocol.specs.declared.Path.{Path}
-use Rattle.protocol.specs.declared.Path.the-variants as path
-use Rattle.protocol.specs.declared.Validator.{Validator}
-use Rattle.account.specs.History.{Text, Asked, Told, Call, ask, tell, Event}
+use Rattle.account.specs.History.{Text, AnswerCall, Call, ask, tell, Event}
+
+-- what a call shows for itself: a username, whether the host said yes to it with a username and a password and for no unknown service, and a
+-- login ticket
+pub record Credentials : Type 0 where
+  pub user : Text
+  pub given : Bool
+  pub lt : Text
+
+abbrev pub noCredentials : Credentials
+noCredentials = record { user = []; given = false; lt = [] }
+
+abbrev pub credentialsIn : AnswerCall → Posted → Credentials
+credentialsIn a p =
+    record {
+      user = p .username;
+      given = a .verdict && not (isEmpty (p .username)) && not (isEmpty (p .password)) && not (unknownService (p .service) (decodeRegister (a .register)));
+      lt = p .lt;
+    }
 
 -- what a call and its answer say
 pub data Item : Type 0 where
@@ -22,24 +38,56 @@ pub data Item : Type 0 where
   Passed : (time : ℕ) → Item
   -- a form shows a new login ticket
   Showed : (lt : Text) → Item
-  -- a sign-on shows a login ticket, which is spent if it is live
-  Spent : (lt : Text) → Item
+  -- a sign-on with these credentials, under the session of this cookie: its login ticket is spent; and if that was live and the credentials
+  -- given, then the session ends, with all its tickets, where it is another user's
+  SignedOn : (cookie : Text) → Credentials → Item
   -- the session of this cookie, if it is live, ends with all its tickets
   Ended : (cookie : Text) → Item
-  -- a session is opened for a user, and its cookie is written; signed: by a POST with verdict yes, showing this login ticket
-  Opened : (cookie user : Text) → (signed : Bool) → (lt : Text) → Item
-  -- a service ticket is issued to a service under the session of a cookie; signed: by a POST with verdict yes, showing this login ticket
-  Issued : (cookie service ticket : Text) → (signed : Bool) → (lt : Text) → Item
+  -- a session is opened by credentials, and its cookie is written
+  Opened : (cookie : Text) → Credentials → Item
+  -- a service ticket is issued to a service under the session of a cookie, by a call with these credentials
+  Issued : (cookie service ticket : Text) → Credentials → Item
   -- a proxy ticket is issued to a service by a grant
   Proxied : (pgt target ticket : Text) → Item
   -- a ticket is shown to a validator and not accepted
   Burnt : (ticket : Text) → Item
-  -- a validator accepts a ticket for a service, and says so with these bytes
-  Welcomed : (v : Validator) → (renew : Bool) → (ticket service said : Text) → Item
-  -- a validator accepts a ticket for a service and calls back: to pgtUrl, with a waiting grant, an IOU and the serial for finish
-  CalledBack : (v : Validator) → (renew : Bool) → (ticket service url pgt iou : Text) → (serial : ℕ) → Item
+  -- the validator of a path accepts a ticket for a service, and says so with these bytes
+  Welcomed : (path : Text) → (renew : Bool) → (ticket service said : Text) → Item
+  -- the validator of a path accepts a ticket for a service and calls back: to pgtUrl, with a waiting grant, an IOU and the serial for finish
+  CalledBack : (path : Text) → (renew : Bool) → (ticket service url pgt iou : Text) → (serial : ℕ) → Item
   -- finish tells success for the waiting grant of a serial, with these bytes
   Settled : (serial : ℕ) → (outcome : Bool) → (said : Text) → Item
+
+-- what a result says: a page; a redirect with a ticket; yes or success; a callback
+abbrev pub isPage : Answer → Bool
+isPage r = eqb (numberOf r) 1
+
+abbrev pub carries : Answer → Bool
+carries answer.Nothing = false
+carries (answer.Page status) = false
+carries (answer.Redirect ticket) = ticket
+carries (answer.Text b) = false
+carries (answer.Xml success) = false
+carries (answer.Callback n) = false
+
+abbrev pub tells : Answer → Bool
+tells answer.Nothing = false
+tells (answer.Page status) = false
+tells (answer.Redirect ticket) = false
+tells (answer.Text b) = b
+tells (answer.Xml success) = success
+tells (answer.Callback n) = false
+
+abbrev pub callsBack : Answer → Bool
+callsBack r = eqb (numberOf r) 5
+
+-- renew stands in a query: one of its pieces, from `&` to `&`, is `renew` up to the first `=`
+unfoldable pub renewAmong : List Text → Bool
+renewAmong [] = false
+renewAmong (p ∷ ps) = same (upTo 61 p) (ascii "renew") || renewAmong ps
+
+abbrev pub asksRenew : Text → Bool
+asksRenew query = renewAmong (cuts 38 query)
 
 -- the ticket of a redirect: after the service, `?` or `&` and `ticket=`
 abbrev pub ticketIn : Text → Text → Text
@@ -69,103 +117,49 @@ proxyStart = ascii "<cas:serviceResponse xmlns:cas=\"http://www.yale.edu/tp/cas\
 abbrev pub proxyIn : Text → Text
 proxyIn said = upTo 60 (drop (length proxyStart) said)
 
--- login by GET: a redirect with a ticket, or a form
-unfoldable pub readLoginGet : Asked → Text → Answer → Text → List Item
-readLoginGet a q answer.Nothing said = []
-readLoginGet a q (answer.Page status) said = if (isForm said) (Showed (loginIn said) ∷ []) []
-readLoginGet a q (answer.Redirect true) said = Issued (a .cookie) (fromQuery "service" q) (ticketIn (fromQuery "service" q) said) false [] ∷ []
-readLoginGet a q (answer.Redirect false) said = []
-readLoginGet a q (answer.Text b) said = []
-readLoginGet a q (answer.Xml b) said = []
-readLoginGet a q (answer.Callback n) said = []
+-- login: a redirect with a ticket under the session of a cookie, or a form
+unfoldable pub readLogin : Text → Text → Credentials → Answer → Text → List Item
+readLogin cookie service c r said =
+    if (carries r) (Issued cookie service (ticketIn service said) c ∷ [])
+    (if (isPage r && isForm said) (Showed (loginIn said) ∷ []) [])
 
--- login by POST: the session first. A new cookie: the cookie's old session has ended and a new one is open. No new cookie, but it is
--- cleared: the old one has ended all the same.
-unfoldable pub readSession : Asked → Text → Bool → List Item
-readSession a [] false = []
-readSession a [] true = Ended (a .cookie) ∷ []
-readSession a (b ∷ cookie) cleared =
-    Opened (b ∷ cookie) (fromBody "username" (a .body)) (a .verdict) (fromBody "lt" (a .body)) ∷ Ended (a .cookie) ∷ []
+-- a sign-on that writes a cookie opens its session, and the session after it is that one, else the one shown
+abbrev pub readOpened : Text → Credentials → List Item
+readOpened [] c = []
+readOpened (b ∷ cookie) c = Opened (b ∷ cookie) c ∷ []
 
--- the cookie of the session after a sign-on: the new one, or the one shown
 abbrev pub cookieAfter : Text → Text → Text
 cookieAfter shown [] = shown
 cookieAfter shown (b ∷ cookie) = b ∷ cookie
 
--- then a redirect with a ticket, or a form again
-unfoldable pub readLoginPost : Asked → Answer → Text → Text → Bool → List Item
-readLoginPost a answer.Nothing said cookie cleared = []
-readLoginPost a (answer.Page status) said cookie cleared = if (isForm said) (Showed (loginIn said) ∷ []) (readSession a cookie cleared)
-readLoginPost a (answer.Redirect true) said cookie cleared =
-    Issued (cookieAfter (a .cookie) cookie) (fromBody "service" (a .body)) (ticketIn (fromBody "service" (a .body)) said) (a .verdict) (fromBody "lt" (a .body))
-    ∷ readSession a cookie cleared
-readLoginPost a (answer.Redirect false) said cookie cleared = []
-readLoginPost a (answer.Text b) said cookie cleared = []
-readLoginPost a (answer.Xml b) said cookie cleared = []
-readLoginPost a (answer.Callback n) said cookie cleared = []
+-- a validator, where service and ticket are there: yes, success and callback accept the ticket, all else burns it
+unfoldable pub readValidator : Text → Bool → Shown → Answer → Text → List Item
+readValidator path renew x r said =
+    if (isEmpty (x .service) || isEmpty (x .ticket)) []
+    (if (tells r) (Welcomed path renew (x .ticket) (x .service) said ∷ [])
+    (if (callsBack r) (CalledBack path renew (x .ticket) (x .service) (x .pgtUrl) (pgtIn (x .pgtUrl) said) (iouIn (x .pgtUrl) said) (serialOf r) ∷ [])
+    (Burnt (x .ticket) ∷ [])))
 
--- a validator, once the request is well-formed: `yes`, success and callback accept the ticket, all else burns it
-unfoldable pub readValidator : Validator → Text → Answer → Text → List Item
-readValidator v q answer.Nothing said = []
-readValidator v q (answer.Page status) said = []
-readValidator v q (answer.Redirect b) said = []
-readValidator v q (answer.Text true) said = Welcomed v (present "renew" q) (fromQuery "ticket" q) (fromQuery "service" q) said ∷ []
-readValidator v q (answer.Text false) said = Burnt (fromQuery "ticket" q) ∷ []
-readValidator v q (answer.Xml true) said = Welcomed v (present "renew" q) (fromQuery "ticket" q) (fromQuery "service" q) said ∷ []
-readValidator v q (answer.Xml false) said = Burnt (fromQuery "ticket" q) ∷ []
-readValidator v q (answer.Callback n) said =
-    CalledBack v (present "renew" q) (fromQuery "ticket" q) (fromQuery "service" q) (fromQuery "pgtUrl" q) (pgtIn (fromQuery "pgtUrl" q) said) (iouIn (fromQuery "pgtUrl" q) said) n
-    ∷ []
-
--- malformed, service or ticket absent: nothing is spent
-abbrev pub badRequest : Validator → Text → Bool
-badRequest v q = malformed false (validatorNames v) q || isEmpty (fromQuery "service" q) || isEmpty (fromQuery "ticket" q)
-
--- proxy: success has a ticket
-unfoldable pub readProxy : Text → Answer → Text → List Item
-readProxy q answer.Nothing said = []
-readProxy q (answer.Page status) said = []
-readProxy q (answer.Redirect b) said = []
-readProxy q (answer.Text b) said = []
-readProxy q (answer.Xml true) said = Proxied (fromQuery "pgt" q) (fromQuery "targetService" q) (proxyIn said) ∷ []
-readProxy q (answer.Xml false) said = []
-readProxy q (answer.Callback n) said = []
-
--- finish: success
-unfoldable pub readFinish : Told → Answer → Text → List Item
-readFinish f answer.Nothing said = []
-readFinish f (answer.Page status) said = []
-readFinish f (answer.Redirect b) said = []
-readFinish f (answer.Text b) said = []
-readFinish f (answer.Xml true) said = Settled (f .serial) (f .outcome) said ∷ []
-readFinish f (answer.Xml false) said = []
-readFinish f (answer.Callback n) said = []
-
--- by path and method; logout ends the session where it clears the cookie
-unfoldable pub readGet : Path → Asked → Text → Answer → Text → Bool → List Item
-readGet path.Login a q r said cleared = readLoginGet a q r said
-readGet path.Logout a q r said cleared = if cleared (Ended (a .cookie) ∷ []) []
-readGet (path.Validate v) a q r said cleared = if (badRequest v q) [] (readValidator v q r said)
-readGet path.Proxy a q r said cleared = readProxy q r said
-readGet path.Unknown a q r said cleared = []
-
-unfoldable pub readPost : Path → Asked → Answer → Text → Text → Bool → List Item
-readPost path.Login a r said cookie cleared =
-    if (malformed true bodyNames (a .body)) [] (readLoginPost a r said cookie cleared ++ (Spent (fromBody "lt" (a .body)) ∷ []))
-readPost path.Logout a r said cookie cleared = []
-readPost (path.Validate v) a r said cookie cleared = []
-readPost path.Proxy a r said cookie cleared = []
-readPost path.Unknown a r said cookie cleared = []
-
-abbrev pub readAsked : Method → Path → Asked → Answer → Text → Text → Bool → List Item
-readAsked method.Get p a r said cookie cleared = readGet p a (queryPart (a .target)) r said cleared
-readAsked method.Post p a r said cookie cleared = readPost p a r said cookie cleared
+-- a request; a malformed one says nothing, and logout ends the session where it clears the cookie
+unfoldable pub readRequest : AnswerCall → Request → Answer → Text → Text → Bool → List Item
+readRequest a NoPath r said cookie cleared = []
+readRequest a NotTaken r said cookie cleared = []
+readRequest a (LoginGet Malformed) r said cookie cleared = []
+readRequest a (LoginGet (Given q)) r said cookie cleared = readLogin (a .cookie) (q .service) noCredentials r said
+readRequest a (LoginPost Malformed) r said cookie cleared = []
+readRequest a (LoginPost (Given p)) r said cookie cleared =
+    readLogin (cookieAfter (a .cookie) cookie) (p .service) (credentialsIn a p) r said
+    ++ (readOpened cookie (credentialsIn a p) ++ (SignedOn (a .cookie) (credentialsIn a p) ∷ []))
+readRequest a (Logout url) r said cookie cleared = if cleared (Ended (a .cookie) ∷ []) []
+readRequest a (Validate v Malformed) r said cookie cleared = []
+readRequest a (Validate v (Given x)) r said cookie cleared = readValidator (pathPart (a .target)) (asksRenew (queryPart (a .target))) x r said
+readRequest a (Proxy Malformed) r said cookie cleared = []
+readRequest a (Proxy (Given w)) r said cookie cleared = if (tells r) (Proxied (w .pgt) (w .target) (proxyIn said) ∷ []) []
 
 -- an answered call: the newest first, and the time before all
 unfoldable pub readCall : Call → Answer → Text → Text → Bool → List Item
-readCall (ask a) r said cookie cleared =
-    readAsked (a .method) (pathNamed (pathPart (a .target))) a r said cookie cleared ++ (Passed (a .time) ∷ [])
-readCall (tell f) r said cookie cleared = readFinish f r said ++ (Passed (f .time) ∷ [])
+readCall (ask a) r said cookie cleared = readRequest a (requestOf (a .method) (a .target) (a .body)) r said cookie cleared ++ (Passed (a .time) ∷ [])
+readCall (tell f) r said cookie cleared = if (tells r) (Settled (f .serial) (f .outcome) said ∷ []) [] ++ (Passed (f .time) ∷ [])
 
 -- the bytes of the answer, and the cookie written
 abbrev pub saidIn : Event → Text

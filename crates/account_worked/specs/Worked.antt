@@ -8,7 +8,6 @@ use Prim.Native.String.{String}
 use lib.ListN.{replicate}
 use Rattle.protocol.specs.declared.Method.{Method}
 use Rattle.protocol.specs.declared.Method.the-variants as method
-use Rattle.protocol.specs.declared.Validator.the-variants as validator
 use Rattle.protocol.specs.Bytes.{ascii, zeros, joined, same, among, allDiffer, allWithin, holds, leOf, bytesOf, spliced, upTo, past, cuts, digits, hex, blocks}
 use Rattle.protocol.specs.Utf8.{noPoint, announced, withTails, notBelow, pointAt, pointsFrom, points, pointRight, pointsRight, nameRight}
 use Rattle.protocol.specs.Blocks.{checkFrom, houseCheck, sealed, checkRight}
@@ -16,16 +15,16 @@ use Rattle.protocol.specs.Tickets.{deepest, markMost, depthLeast, depthMost, te
 use Rattle.protocol.specs.Records.{recBody, encodeRec, decodeRec, nameOf, textRight, fieldsRight, sinceRight, serialRight, expiryRight, ownRight}
 use Rattle.protocol.specs.Table.{headBody, encodeTable, decodeTable, slotFrom, countKind, serialTaken, serialsDiffer, sessionRight, grantRight, parentRight, allRight, loginCap, rulesHold, tableLawful, formatted}
 use Rattle.protocol.specs.Register.{entryBody, encodeEntry, decodeEntry, decodeRegister, addressRight, entryRight, allEntriesRight, servicesOf, registerLawful, registered, callbackOf}
-use Rattle.protocol.specs.Request.{pathNamed, notEmpty, pieces, countNamed, firstNamed, occurrences, rawValue, hexValue, unitOf, skipOf, decodedFrom, valueMost, charsRight, valueRight, loginNames, bodyNames, logoutNames, validatorNames, proxyNames, badName, malformed, valueOf, present}
+use Rattle.protocol.specs.Request.{pathNamed, notEmpty, pieces, countNamed, firstNamed, occurrences, rawValue, hexValue, unitOf, skipOf, decodedFrom, valueMost, charsRight, valueRight, loginNames, bodyNames, logoutNames, validatorNames, proxyNames, badName, malformed, valueOf, present, asked as askedOf, posted, leaving, shown, wanted}
 use Rattle.protocol.specs.Calendar.{isLeap, yearLength, monthLength, yearFrom, yearOf, monthFrom, monthOf, dateOf, padded, dayText, clockText, dateText}
 use Rattle.protocol.specs.Answers.{escapedByte, escaped, extended, pageHead, formText, inResponse, proxyLines, attributesText, successText, failureText, proxySuccessText, callbackText, replyText, replyAnswer}
-use Rattle.protocol.specs.Steps.{tick, endSession, isNamed, slotNamed, ticketSlot, slotFor, roomFor, expiryFor, newRec, add, chainFrom, chainOf, formWith, formStep, ticketWith, ticketStep, signedOn, loginPage, unknownService, loginGet, admitted, newSession, needs, issueAll, accepted, credentials, loginTicket, loginPost, waitingWith, waitingStep, grants, turned, leftBy, acceptTicket, judgeTicket, presented, validate, waitingSlot, finished, finishAt, finish, proxyWith, proxyBy, proxy, linkTo, logout}
+use Rattle.protocol.specs.Steps.{tick, endSession, isNamed, slotNamed, ticketSlot, slotFor, roomFor, expiryFor, newRec, add, chainFrom, chainOf, formWith, formStep, ticketWith, ticketStep, signedOn, unknownService, wayOf, taken, loginGet, admitted, needs, keepSession, sessionWith, openSession, standingOf, admits, accepted, admissionOf, entered, credentials, loginPost, rulingOf, turned, leftBy, grants, waitingWith, grantOrTell, acceptTicket, ruled, presented, validate, waitingSlot, finished, finishAt, finish, proxyWith, proxyBy, proxy, withoutSession, linkTo, logout, requestStep}
 use Rattle.protocol.specs.Calls.{Result, outcomeWith, answerRefusal, stepOf, delivered, answerOf, finishRefusal, finishOf, formatRefusal, formatOf, checkOf, formRefusal, formOf}
 use Rattle.account.specs.History.{Text, Call, ask, tell, Event, served, eventOf, tableAfter, historyOf}
-use Rattle.account.specs.Reading.{Item, Passed, Showed, Spent, Ended, Opened, Issued, Proxied, Burnt, Welcomed, CalledBack, Settled, readLoginGet, readSession, readLoginPost, readValidator, readProxy, readFinish, readGet, readPost, readCall, read, trailOf}
-use Rattle.account.specs.Notebook.{isBurnt, isEnded, isExpired, closeAll, enter, raiseAll, pass, look, note, notebook, tally}
-use Rattle.account.specs.Truth.{openerOf, spentLive, calledOf, originOf, grantOf}
-use Rattle.account.specs.Account.{issuedBy, acceptedBy, issued, accepted as acceptedOfAccount, waitingAmong, waitingIn, successes}
+use Rattle.account.specs.Reading.{Credentials, noCredentials, Item, Passed, Showed, SignedOn, Ended, Opened, Issued, Proxied, Burnt, Welcomed, CalledBack, Settled, renewAmong, readLogin, readValidator, readRequest, readCall, read, trailOf}
+use Rattle.account.specs.Notebook.{burnt, ended, expired, cameTo, closeAll, enter, raiseAll, pass, look, note, notebook, tally}
+use Rattle.account.specs.Truth.{known, count}
+use Rattle.account.specs.Account.{issuedBy, acceptedBy, successBy, sumOf, waitingAmong, waitingIn}
 
 -- a run that hands its table on: what it leaves is what the history says, by `lived-is`
 pub record Lived : Type 0 where
@@ -89,7 +88,7 @@ calls =
 
 -- the whole life of the table
 whole : Lived
-unfolding lived calls asked register joined same among allDiffer allWithin noPoint announced withTails notBelow pointAt pointsFrom points pointRight pointsRight nameRight holds leOf bytesOf spliced upTo past cuts digits hex blocks checkFrom houseCheck sealed checkRight deepest markMost depthLeast depthMost textLeast textMost secretFrom iouFrom sinceFrom ticketText iouText recBody encodeRec decodeRec nameOf textRight fieldsRight sinceRight serialRight expiryRight ownRight headBody encodeTable decodeTable slotFrom countKind serialTaken serialsDiffer sessionRight grantRight parentRight allRight loginCap rulesHold tableLawful formatted entryBody encodeEntry decodeEntry decodeRegister addressRight entryRight allEntriesRight servicesOf registerLawful registered callbackOf pathNamed notEmpty pieces countNamed firstNamed occurrences rawValue hexValue unitOf skipOf decodedFrom valueMost charsRight valueRight loginNames bodyNames logoutNames validatorNames proxyNames badName malformed valueOf present escapedByte escaped extended pageHead formText inResponse proxyLines isLeap yearLength monthLength yearFrom yearOf monthFrom monthOf dateOf padded dayText clockText dateText attributesText successText failureText proxySuccessText callbackText replyText replyAnswer tick endSession isNamed slotNamed ticketSlot slotFor roomFor expiryFor newRec add chainFrom chainOf formWith formStep ticketWith ticketStep signedOn loginPage unknownService loginGet admitted newSession needs issueAll accepted credentials loginTicket loginPost waitingWith waitingStep grants turned leftBy acceptTicket judgeTicket presented validate waitingSlot finished finishAt finish proxyWith proxyBy proxy linkTo logout outcomeWith answerRefusal stepOf delivered answerOf finishRefusal finishOf formatRefusal formatOf checkOf formRefusal formOf served eventOf tableAfter historyOf readLoginGet readSession readLoginPost readValidator readProxy readFinish readGet readPost readCall read trailOf closeAll enter raiseAll pass look note notebook tally openerOf spentLive calledOf originOf grantOf issuedBy acceptedBy issued acceptedOfAccount waitingAmong waitingIn successes
+unfolding lived calls asked register joined same among allDiffer allWithin noPoint announced withTails notBelow pointAt pointsFrom points pointRight pointsRight nameRight holds leOf bytesOf spliced upTo past cuts digits hex blocks checkFrom houseCheck sealed checkRight deepest markMost depthLeast depthMost textLeast textMost secretFrom iouFrom sinceFrom ticketText iouText recBody encodeRec decodeRec nameOf textRight fieldsRight sinceRight serialRight expiryRight ownRight headBody encodeTable decodeTable slotFrom countKind serialTaken serialsDiffer sessionRight grantRight parentRight allRight loginCap rulesHold tableLawful formatted entryBody encodeEntry decodeEntry decodeRegister addressRight entryRight allEntriesRight servicesOf registerLawful registered callbackOf pathNamed notEmpty pieces countNamed firstNamed occurrences rawValue hexValue unitOf skipOf decodedFrom valueMost charsRight valueRight loginNames bodyNames logoutNames validatorNames proxyNames badName malformed valueOf present askedOf posted leaving shown wanted escapedByte escaped extended pageHead formText inResponse proxyLines isLeap yearLength monthLength yearFrom yearOf monthFrom monthOf dateOf padded dayText clockText dateText attributesText successText failureText proxySuccessText callbackText replyText replyAnswer tick endSession isNamed slotNamed ticketSlot slotFor roomFor expiryFor newRec add chainFrom chainOf formWith formStep ticketWith ticketStep signedOn unknownService wayOf taken loginGet admitted needs keepSession sessionWith openSession standingOf admits accepted admissionOf entered credentials loginPost rulingOf turned leftBy grants waitingWith grantOrTell acceptTicket ruled presented validate waitingSlot finished finishAt finish proxyWith proxyBy proxy withoutSession linkTo logout requestStep outcomeWith answerRefusal stepOf delivered answerOf finishRefusal finishOf formatRefusal formatOf checkOf formRefusal formOf served eventOf tableAfter historyOf renewAmong readLogin readValidator readRequest readCall read trailOf closeAll enter raiseAll pass look note notebook tally known count issuedBy acceptedBy successBy sumOf waitingAmong waitingIn
 whole = lived (formatOf (zeros 4608) 999 .table) calls
 
 -- the texts of tickets whose secrets are zeros
@@ -115,57 +114,66 @@ toldAtFinish = ascii "<cas:serviceResponse xmlns:cas=\"http://www.yale.edu/tp/ca
 abbrev toldByProxy : Text
 toldByProxy = ascii "<cas:serviceResponse xmlns:cas=\"http://www.yale.edu/tp/cas\">\n  <cas:authenticationSuccess>\n    <cas:user>ann</cas:user>\n    <cas:attributes>\n      <cas:authenticationDate>1970-01-01T00:16:41Z</cas:authenticationDate>\n      <cas:longTermAuthenticationRequestTokenUsed>false</cas:longTermAuthenticationRequestTokenUsed>\n      <cas:isFromNewLogin>false</cas:isFromNewLogin>\n    </cas:attributes>\n    <cas:proxies>\n      <cas:proxy>https://p.lan/cb</cas:proxy>\n    </cas:proxies>\n  </cas:authenticationSuccess>\n</cas:serviceResponse>\n"
 
+-- what the two sign-ons show
+abbrev byAnn : Credentials
+byAnn = record { user = ascii "ann"; given = true; lt = short "LT-1-" }
+
+abbrev byBob : Credentials
+byBob = record { user = ascii "bob"; given = true; lt = short "LT-9-" }
+
 -- what the calls and their answers say, the newest first; the refused call says nothing
 pub said : List Item
 said =
-    Issued (long "TGC-10-") panelP (short "ST-11-") true (short "LT-9-")
-    ∷ Opened (long "TGC-10-") (ascii "bob") true (short "LT-9-")
-    ∷ Ended []
-    ∷ Spent (short "LT-9-")
+    Issued (long "TGC-10-") panelP (short "ST-11-") byBob
+    ∷ Opened (long "TGC-10-") byBob
+    ∷ SignedOn [] byBob
     ∷ Passed 1403
     ∷ Showed (short "LT-9-")
     ∷ Passed 1402
     ∷ Ended (long "TGC-2-")
     ∷ Passed 1401
-    ∷ Issued (long "TGC-2-") panelP (short "ST-8-") false []
+    ∷ Issued (long "TGC-2-") panelP (short "ST-8-") noCredentials
     ∷ Passed 1400
     ∷ Burnt (short "ST-7-")
     ∷ Passed 1008
-    ∷ Issued (long "TGC-2-") panelP (short "ST-7-") false []
+    ∷ Issued (long "TGC-2-") panelP (short "ST-7-") noCredentials
     ∷ Passed 1007
-    ∷ Welcomed validator.Proxy false (short "PT-5-") panelQ toldByProxy
+    ∷ Welcomed (ascii "/cas/proxyValidate") false (short "PT-5-") panelQ toldByProxy
     ∷ Passed 1006
-    ∷ Issued (long "TGC-2-") panelP (short "ST-6-") false []
+    ∷ Issued (long "TGC-2-") panelP (short "ST-6-") noCredentials
     ∷ Passed 1005
     ∷ Proxied (long "PGT-4-") panelQ (short "PT-5-")
     ∷ Passed 1004
     ∷ Settled 4 true toldAtFinish
     ∷ Passed 1003
-    ∷ CalledBack validator.Service true (short "ST-3-") panelP callbackP (long "PGT-4-") (long "PGTIOU-") 4
+    ∷ CalledBack (ascii "/cas/serviceValidate") true (short "ST-3-") panelP callbackP (long "PGT-4-") (long "PGTIOU-") 4
     ∷ Passed 1002
-    ∷ Issued (long "TGC-2-") panelP (short "ST-3-") true (short "LT-1-")
-    ∷ Opened (long "TGC-2-") (ascii "ann") true (short "LT-1-")
-    ∷ Ended []
-    ∷ Spent (short "LT-1-")
+    ∷ Issued (long "TGC-2-") panelP (short "ST-3-") byAnn
+    ∷ Opened (long "TGC-2-") byAnn
+    ∷ SignedOn [] byAnn
     ∷ Passed 1001
     ∷ Showed (short "LT-1-")
     ∷ Passed 1000
     ∷ []
 
 pub trailIn : Lived → List Item
-unfolding joined same among allDiffer allWithin noPoint announced withTails notBelow pointAt pointsFrom points pointRight pointsRight nameRight holds leOf bytesOf spliced upTo past cuts digits hex blocks checkFrom houseCheck sealed checkRight deepest markMost depthLeast depthMost textLeast textMost secretFrom iouFrom sinceFrom ticketText iouText recBody encodeRec decodeRec nameOf textRight fieldsRight sinceRight serialRight expiryRight ownRight headBody encodeTable decodeTable slotFrom countKind serialTaken serialsDiffer sessionRight grantRight parentRight allRight loginCap rulesHold tableLawful formatted entryBody encodeEntry decodeEntry decodeRegister addressRight entryRight allEntriesRight servicesOf registerLawful registered callbackOf pathNamed notEmpty pieces countNamed firstNamed occurrences rawValue hexValue unitOf skipOf decodedFrom valueMost charsRight valueRight loginNames bodyNames logoutNames validatorNames proxyNames badName malformed valueOf present escapedByte escaped extended pageHead formText inResponse proxyLines isLeap yearLength monthLength yearFrom yearOf monthFrom monthOf dateOf padded dayText clockText dateText attributesText successText failureText proxySuccessText callbackText replyText replyAnswer tick endSession isNamed slotNamed ticketSlot slotFor roomFor expiryFor newRec add chainFrom chainOf formWith formStep ticketWith ticketStep signedOn loginPage unknownService loginGet admitted newSession needs issueAll accepted credentials loginTicket loginPost waitingWith waitingStep grants turned leftBy acceptTicket judgeTicket presented validate waitingSlot finished finishAt finish proxyWith proxyBy proxy linkTo logout outcomeWith answerRefusal stepOf delivered answerOf finishRefusal finishOf formatRefusal formatOf checkOf formRefusal formOf served eventOf tableAfter historyOf readLoginGet readSession readLoginPost readValidator readProxy readFinish readGet readPost readCall read trailOf closeAll enter raiseAll pass look note notebook tally openerOf spentLive calledOf originOf grantOf issuedBy acceptedBy issued acceptedOfAccount waitingAmong waitingIn successes
+unfolding joined same among allDiffer allWithin noPoint announced withTails notBelow pointAt pointsFrom points pointRight pointsRight nameRight holds leOf bytesOf spliced upTo past cuts digits hex blocks checkFrom houseCheck sealed checkRight deepest markMost depthLeast depthMost textLeast textMost secretFrom iouFrom sinceFrom ticketText iouText recBody encodeRec decodeRec nameOf textRight fieldsRight sinceRight serialRight expiryRight ownRight headBody encodeTable decodeTable slotFrom countKind serialTaken serialsDiffer sessionRight grantRight parentRight allRight loginCap rulesHold tableLawful formatted entryBody encodeEntry decodeEntry decodeRegister addressRight entryRight allEntriesRight servicesOf registerLawful registered callbackOf pathNamed notEmpty pieces countNamed firstNamed occurrences rawValue hexValue unitOf skipOf decodedFrom valueMost charsRight valueRight loginNames bodyNames logoutNames validatorNames proxyNames badName malformed valueOf present askedOf posted leaving shown wanted escapedByte escaped extended pageHead formText inResponse proxyLines isLeap yearLength monthLength yearFrom yearOf monthFrom monthOf dateOf padded dayText clockText dateText attributesText successText failureText proxySuccessText callbackText replyText replyAnswer tick endSession isNamed slotNamed ticketSlot slotFor roomFor expiryFor newRec add chainFrom chainOf formWith formStep ticketWith ticketStep signedOn unknownService wayOf taken loginGet admitted needs keepSession sessionWith openSession standingOf admits accepted admissionOf entered credentials loginPost rulingOf turned leftBy grants waitingWith grantOrTell acceptTicket ruled presented validate waitingSlot finished finishAt finish proxyWith proxyBy proxy withoutSession linkTo logout requestStep outcomeWith answerRefusal stepOf delivered answerOf finishRefusal finishOf formatRefusal formatOf checkOf formRefusal formOf served eventOf tableAfter historyOf renewAmong readLogin readValidator readRequest readCall read trailOf closeAll enter raiseAll pass look note notebook tally known count issuedBy acceptedBy successBy sumOf waitingAmong waitingIn
 trailIn l = trailOf (l .events)
 
--- issued, accepted, burnt, ended, expired, waiting
+-- of all tickets: issued, accepted, burnt, ended, expired, waiting, successful
+abbrev any : Text → Bool
+any x = true
+
 pub countsIn : Lived → List ℕ
-unfolding joined same among allDiffer allWithin noPoint announced withTails notBelow pointAt pointsFrom points pointRight pointsRight nameRight holds leOf bytesOf spliced upTo past cuts digits hex blocks checkFrom houseCheck sealed checkRight deepest markMost depthLeast depthMost textLeast textMost secretFrom iouFrom sinceFrom ticketText iouText recBody encodeRec decodeRec nameOf textRight fieldsRight sinceRight serialRight expiryRight ownRight headBody encodeTable decodeTable slotFrom countKind serialTaken serialsDiffer sessionRight grantRight parentRight allRight loginCap rulesHold tableLawful formatted entryBody encodeEntry decodeEntry decodeRegister addressRight entryRight allEntriesRight servicesOf registerLawful registered callbackOf pathNamed notEmpty pieces countNamed firstNamed occurrences rawValue hexValue unitOf skipOf decodedFrom valueMost charsRight valueRight loginNames bodyNames logoutNames validatorNames proxyNames badName malformed valueOf present escapedByte escaped extended pageHead formText inResponse proxyLines isLeap yearLength monthLength yearFrom yearOf monthFrom monthOf dateOf padded dayText clockText dateText attributesText successText failureText proxySuccessText callbackText replyText replyAnswer tick endSession isNamed slotNamed ticketSlot slotFor roomFor expiryFor newRec add chainFrom chainOf formWith formStep ticketWith ticketStep signedOn loginPage unknownService loginGet admitted newSession needs issueAll accepted credentials loginTicket loginPost waitingWith waitingStep grants turned leftBy acceptTicket judgeTicket presented validate waitingSlot finished finishAt finish proxyWith proxyBy proxy linkTo logout outcomeWith answerRefusal stepOf delivered answerOf finishRefusal finishOf formatRefusal formatOf checkOf formRefusal formOf served eventOf tableAfter historyOf readLoginGet readSession readLoginPost readValidator readProxy readFinish readGet readPost readCall read trailOf closeAll enter raiseAll pass look note notebook tally openerOf spentLive calledOf originOf grantOf issuedBy acceptedBy issued acceptedOfAccount waitingAmong waitingIn successes
+unfolding joined same among allDiffer allWithin noPoint announced withTails notBelow pointAt pointsFrom points pointRight pointsRight nameRight holds leOf bytesOf spliced upTo past cuts digits hex blocks checkFrom houseCheck sealed checkRight deepest markMost depthLeast depthMost textLeast textMost secretFrom iouFrom sinceFrom ticketText iouText recBody encodeRec decodeRec nameOf textRight fieldsRight sinceRight serialRight expiryRight ownRight headBody encodeTable decodeTable slotFrom countKind serialTaken serialsDiffer sessionRight grantRight parentRight allRight loginCap rulesHold tableLawful formatted entryBody encodeEntry decodeEntry decodeRegister addressRight entryRight allEntriesRight servicesOf registerLawful registered callbackOf pathNamed notEmpty pieces countNamed firstNamed occurrences rawValue hexValue unitOf skipOf decodedFrom valueMost charsRight valueRight loginNames bodyNames logoutNames validatorNames proxyNames badName malformed valueOf present askedOf posted leaving shown wanted escapedByte escaped extended pageHead formText inResponse proxyLines isLeap yearLength monthLength yearFrom yearOf monthFrom monthOf dateOf padded dayText clockText dateText attributesText successText failureText proxySuccessText callbackText replyText replyAnswer tick endSession isNamed slotNamed ticketSlot slotFor roomFor expiryFor newRec add chainFrom chainOf formWith formStep ticketWith ticketStep signedOn unknownService wayOf taken loginGet admitted needs keepSession sessionWith openSession standingOf admits accepted admissionOf entered credentials loginPost rulingOf turned leftBy grants waitingWith grantOrTell acceptTicket ruled presented validate waitingSlot finished finishAt finish proxyWith proxyBy proxy withoutSession linkTo logout requestStep outcomeWith answerRefusal stepOf delivered answerOf finishRefusal finishOf formatRefusal formatOf checkOf formRefusal formOf served eventOf tableAfter historyOf renewAmong readLogin readValidator readRequest readCall read trailOf closeAll enter raiseAll pass look note notebook tally known count issuedBy acceptedBy successBy sumOf waitingAmong waitingIn
 countsIn l =
-    issued (l .events)
-    ∷ acceptedOfAccount (l .events)
-    ∷ tally isBurnt (notebook 999 (trailOf (l .events)) .book)
-    ∷ tally isEnded (notebook 999 (trailOf (l .events)) .book)
-    ∷ tally isExpired (notebook 999 (trailOf (l .events)) .book)
-    ∷ waitingIn (l .table)
+    sumOf issuedBy (l .events)
+    ∷ sumOf acceptedBy (l .events)
+    ∷ tally any (cameTo burnt) (notebook 999 (trailOf (l .events)) .book)
+    ∷ tally any (cameTo ended) (notebook 999 (trailOf (l .events)) .book)
+    ∷ tally any (cameTo expired) (notebook 999 (trailOf (l .events)) .book)
+    ∷ waitingIn any (l .table)
+    ∷ sumOf successBy (l .events)
     ∷ []
 
 -- the run as the theorem speaks of it
@@ -179,14 +187,14 @@ trail-computed : trailIn whole ≡ said
 unfolding whole trailIn said
 trail-computed = refl
 
-counts-computed : countsIn whole ≡ 6 ∷ 2 ∷ 1 ∷ 1 ∷ 1 ∷ 1 ∷ []
+counts-computed : countsIn whole ≡ 6 ∷ 2 ∷ 1 ∷ 1 ∷ 1 ∷ 1 ∷ 2 ∷ []
 unfolding whole countsIn
 counts-computed = refl
 
 pub record Worked : Type 0 where
   pub trail : trailIn asTold ≡ said
   -- 6 = 2 + 1 + 1 + 1 + 1
-  pub counts : countsIn asTold ≡ 6 ∷ 2 ∷ 1 ∷ 1 ∷ 1 ∷ 1 ∷ []
+  pub counts : countsIn asTold ≡ 6 ∷ 2 ∷ 1 ∷ 1 ∷ 1 ∷ 1 ∷ 2 ∷ []
 
 pub worked : Worked
 unfolding whole

@@ -78,14 +78,6 @@ put-done s at n i w h = let a : n - i ≡ 0 = omega arith in rw a
 pub spliced-twice : (s xs ys : List ℕ) (at n : ℕ) → at + length xs ≡ n → n ≤ length s → spliced (spliced s at xs) n ys ≡ spliced s at (xs ++ ys)
 spliced-twice s xs ys at n e h = rw (sym e) (splice-append s xs ys at (omega arith))
 
--- what was written is read back; the part, and the number
-pub part-spliced : (bs s : List ℕ) (at k : ℕ) → length bs ≡ k → at ≤ length s → part at k (spliced s at bs) ≡ bs
-unfolding spliced
-part-spliced bs s at k e h = rw (drop-at (take at s) (bs ++ drop (at + length bs) s) at (length-take-le at s h)) (take-at bs _ k e)
-
-pub num-spliced : (k v : ℕ) (s : List ℕ) (at : ℕ) → v < 256 ^ k → at ≤ length s → num at k (spliced s at (bytesOf k v)) ≡ v
-num-spliced k v s at f h = rw (part-spliced (bytesOf k v) s at k (length-bytes k v) h) (le-bytes k v f)
-
 -- a text, and zeros after it
 pub padded : (s src : List ℕ) (at n : ℕ) {c d : List ℕ} → at + n ≤ length s → length src ≤ n → c ≡ spliced s at src → d ≡ spliced c (at + length src) (zeros (n - length src))
     → d ≡ spliced s at (padTo n src)

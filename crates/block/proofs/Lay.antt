@@ -39,10 +39,3 @@ unfolding spliced
 lent t ys b a n e d h q =
     let k : e - a ≡ length b = omega arith in
     rw (k, q, drop-drop (length b) a t)
-
--- written from end to end it is all there is
-pub spliced-whole : (xs s : List ℕ) → length xs ≡ length s → spliced s 0 xs ≡ xs
-unfolding spliced
-spliced-whole xs s e =
-    let k : 0 + length xs ≡ length s = omega arith in
-    rw (k, drop-of-length-le s {i = length s} (omega arith)) (append-nil xs)

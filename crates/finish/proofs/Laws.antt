@@ -21,12 +21,12 @@ use Rattle.protocol.proofs.Sizes.{iou-most}
 use Rattle.protocol.proofs.Held.{fits-of, sound-held, session-in}
 use Rattle.protocol.proofs.Told.{said-done, only-said, done-as}
 use Rattle.text.proofs.Splice.{read-back}
-use Rattle.find.specs.declared.Found.{Found}
-use Rattle.find.specs.declared.Found.the-variants.{At, Nothing}
-use Rattle.find.specs.Searches.{foundAt}
-use Rattle.find.proofs.Laws.{found-is, found-low, found-none, waiting-slot}
-use Rattle.chain.specs.Walk.{Told}
-use Rattle.chain.proofs.Links.{parent-within}
+use Rattle.table_find.specs.declared.Found.{Found}
+use Rattle.table_find.specs.declared.Found.the-variants.{At, Nothing}
+use Rattle.table_find.specs.Searches.{foundAt}
+use Rattle.table_find.proofs.Laws.{found-is, found-low, found-none, waiting-slot}
+use Rattle.success.specs.Walk.{Told}
+use Rattle.success.proofs.Links.{parent-within}
 use Rattle.finish.specs.Waits.{Waits}
 
 module _ (b : List ℕ) (k : ℕ) (w : Waits k b) where

@@ -1,6 +1,6 @@
 // A callback finished: the waiting grant of a serial becomes a grant or is removed, and success is told of it.
-use find::Found;
 use protocol::Outcome;
+use table_find::Found;
 use xml::Code;
 ghost use mathlib.Core.List.{[]};
 ghost use Prim.Native.Nat.{_≤_};
@@ -19,7 +19,7 @@ fn tell(table: &[u8], slot: usize, iou: &[u8], out: &mut [u8]) -> Outcome
     let session = table::session_of(table, slot) as usize;
     let parent = table::parent_of(table, slot) as usize;
     let mark = table::mark_of(table, slot);
-    chain::say_success(table, session, mark, iou, parent, out)
+    success::say_success(table, session, mark, iou, parent, out)
 }
 
 // Yes, with room for the IOU's text: told, then a grant.
@@ -66,7 +66,7 @@ pub fn finish(table: &mut [u8], serial: u32, outcome: bool, out: &mut [u8]) -> O
     requires { ⌜ (Lawful (now table)) × (8192 ≤ length (now out)) ⌝ }
     ensures { λ r. ⌜ Done (finish serial outcome (decodeTable (now (table .entry)))) r (now (table .exit)) (now (out .entry)) (now (out .exit)) ⌝ }
 {
-    match find::find_waiting(table, serial) {
+    match table_find::find_waiting(table, serial) {
         Found::At(slot) => settle(table, slot, outcome, out),
         Found::Nothing => reply::say_failure(out, Code::InvalidTicket),
     }

@@ -2,7 +2,6 @@
 ghost use mathlib.Core.Path.{_≡_};
 ghost use Prim.Native.Nat.{_+_, _≤_};
 ghost use lib.ListN.{length};
-use protocol::Answer;
 use protocol::Form;
 use protocol::Outcome;
 use protocol::Visit;
@@ -46,9 +45,9 @@ pub fn put_refusal(out: &mut [u8; 131072], letter: u8, refusal: u32) -> usize
     put_number(out, at, refusal as u64)
 }
 
-pub fn reply_fault(out: &mut [u8; 131072], refusal: u32, first: u32) -> usize {
+pub fn reply_fault(out: &mut [u8; 131072], refusal: u32, block: u64) -> usize {
     let at = put_refusal(out, b'G', refusal);
-    put_number(out, at, first as u64)
+    put_number(out, at, block)
 }
 
 pub fn reply_table(out: &mut [u8; 131072], table: &[u8]) -> usize
@@ -89,37 +88,14 @@ pub fn reply_visit(out: &mut [u8; 131072], visit: Visit, text: &[u8]) -> usize
     put_text(out, at, lent::part(text, 0, visit.length as u64))
 }
 
-fn kind_of(a: Answer) -> u8 {
-    match a {
-        Answer::Nothing => 0,
-        Answer::Page(_) => 1,
-        Answer::Redirect(_) => 2,
-        Answer::Text(_) => 3,
-        Answer::Xml(_) => 4,
-        Answer::Callback(_) => 5,
-    }
-}
-
-// Does a redirect carry a ticket, a text say yes, XML tell of success?
-fn data_of(a: Answer) -> bool {
-    match a {
-        Answer::Nothing => false,
-        Answer::Page(_) => false,
-        Answer::Redirect(ticket) => ticket,
-        Answer::Text(yes) => yes,
-        Answer::Xml(success) => success,
-        Answer::Callback(_) => false,
-    }
-}
-
 // What an outcome says beside its bytes.
 fn put_outcome(out: &mut [u8; 131072], letter: u8, o: Outcome) -> usize
     ensures { λ r. ⌜ r ≡ 20 ⌝ }
 {
     let answer = o.answer;
     let at = put_refusal(out, letter, o.refusal);
-    let at = put_byte(out, at, kind_of(answer));
-    let at = put_byte(out, at, data_of(answer) as u8);
+    let at = put_byte(out, at, (reply::number_of(answer) % 256) as u8);
+    let at = put_byte(out, at, (reply::data_of(answer) % 256) as u8);
     let at = put_number(out, at, o.status as u64);
     let at = put_byte(out, at, o.cookie_cleared as u8);
     put_number(out, at, o.callback_serial as u64)

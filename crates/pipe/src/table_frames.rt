@@ -14,21 +14,7 @@ ghost use mathlib.Core.Path.{_≡_};
 ghost use Prim.Native.Nat.{_≤_};
 ghost use lib.ListN.{length};
 
-// What is wrong with a register: the refusal's number and the first block at fault, or 0 and 0.
-struct Fault {
-    refusal: u32,
-    first: u32,
-}
-
-// No register is judged here yet: a bad one is refused with 3 by the answer that it is lent to.
-fn fault_of(_register: &[u8]) -> Fault {
-    Fault {
-        refusal: 0,
-        first: 0,
-    }
-}
-
-// The register from here on, as it is.
+// The register from here on, as it is, and what is wrong with it: the refusal's number and the first block at fault, or 0 and 0.
 pub fn take_register(
     held: Held,
     register: &mut [u8; 8704],
@@ -44,8 +30,8 @@ pub fn take_register(
         return cut(out);
     }
     text::put_bytes(register, 0, bytes);
-    let fault = fault_of(bytes);
-    let end = reply_fault(out, fault.refusal, fault.first);
+    let fault = signon::check_register(bytes);
+    let end = reply_fault(out, fault.refusal, fault.block as u64);
     held.with_register(bytes.len() as u64, end)
 }
 

@@ -119,9 +119,6 @@ differ-set r (q ∷ rs) (suc i) e h =
 
 -- Counting
 
-bit : Bool → ℕ
-bit z = if z 1 0
-
 pub count-set : (k : ℕ) (r : Rec) (rs : List Rec) (i : ℕ) → countKind k (set rs i r) ≤ countKind k rs + if (eqb (r .kind) k) 1 0
 unfolding countKind
 count-set k r [] i = omega arith

@@ -174,16 +174,6 @@ none-lawful b s g =
     let d = apart-differ (length b / 512) b (λ j k i l. turned (serviceIn b k) (serviceIn b j) (no-fault b k (omega arith) (g k l) .1 j i)) in
     rw (s, eq-same b (joined (map encodeEntry (said (length b / 512) b))) (p .0), p .1, d)
 
--- the first at fault
-from-most : (k m : ℕ) (b : List ℕ) → faultFrom k m b ≤ k + m
-unfolding faultFrom
-from-most k zero b = omega arith
-from-most k (suc m) b = go (atFault b k) (from-most (k + 1) m b)
-  where
-    go : (x : Bool) → faultFrom (k + 1) m b ≤ k + 1 + m → if x k (faultFrom (k + 1) m b) ≤ k + suc m
-    go true h = omega arith
-    go false h = omega arith
-
 from-before : (k m : ℕ) (b : List ℕ) (j : ℕ) → k ≤ j → j < faultFrom k m b → atFault b j ≡ false
 unfolding faultFrom
 from-before k zero b j h l = absurd (omega arith)

@@ -14,7 +14,7 @@ use Rattle.protocol.specs.Held.{Fits, AllFit, Fine, Holds, In, Lawful}
 use Rattle.protocol.proofs.Laws.{recRight, rules, rules-hold, table-back, length-table, length-rec}
 use Rattle.protocol.proofs.Places.{slot-read, slot-bytes, put-bytes, head-put, slots-count}
 use Rattle.protocol.proofs.Kept.{SessionView, ParentView, unnamed, named, orphan, of-session, of-grant, session-view, parent-view, recs3, right-slot}
-use Rattle.protocol.proofs.StepSound.{slot-within}
+use Rattle.protocol.proofs.Searches.{slot-within}
 use Rattle.protocol.proofs.Added.{slot-chosen, room-one}
 use Rattle.protocol.proofs.Sound.{Sound, fit-put, fit-slot, length-put}
 
@@ -32,29 +32,14 @@ holds-bytes b t h = h .fine .same ∙ ap encodeTable (h .is)
 pub holds-self : (b : List ℕ) → Fine b → Holds b (decodeTable b)
 holds-self b f = record { is = refl; fine = f }
 
--- a table that is the same is held, too
-pub holds-same : (b : List ℕ) (t u : Table) → Holds b t → t ≡ u → Holds b u
-holds-same b t u h e = record { is = h .is ∙ e; fine = h .fine }
-
--- a sound table's bytes hold it, and lawful bytes hold a sound table
-pub holds-sound : (b : List ℕ) (t : Table) → b ≡ encodeTable t → Sound t → Holds b t
-holds-sound b t e s = holds-by-bytes b t e (s .rules .clock) (s .next) (s .fit) (s .few)
-
 pub sound-held : (b : List ℕ) → Lawful b → Sound (decodeTable b)
 sound-held b l =
     let f = l .fine in
     record { rules = rules (decodeTable b) (l .rules); next = f .next; fit = f .fit; few = f .few }
 
-pub holds-lawful : (b : List ℕ) (t : Table) → Holds b t → Sound t → Lawful b
-holds-lawful b t h s = record { fine = h .fine; rules = rw (h .is) (rules-hold t (s .rules)) }
-
 -- one edit after another: the second is of the table that the first left
 pub then : (f : Table → Table) (b b′ : List ℕ) (t : Table) → Holds b t → Holds b′ (f (decodeTable b)) → Holds b′ (f t)
 then f b b′ t h g = rw (h .is) at g
-
--- the length of a fine table's bytes follows from its slots
-pub same-size : (b b′ : List ℕ) → Fine b → Fine b′ → length (decodeTable b′ .slots) ≡ length (decodeTable b .slots) → length b′ ≡ length b
-same-size b b′ f g e = omega (arith, f .count, g .count)
 
 -- Slots
 

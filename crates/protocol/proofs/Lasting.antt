@@ -11,23 +11,19 @@ use Rattle.protocol.specs.Bytes.{if, within, blocks}
 use Rattle.protocol.specs.Records.{Rec, freeRec, decodeRec}
 use Rattle.protocol.specs.Table.{Table, decodeTable, tableShape, tableLawful, lastTime, allRight, serialsDiffer, countKind, formatted, loginCap}
 use Rattle.protocol.specs.Register.{registerLawful}
-use Rattle.protocol.specs.Request.{pathNamed, pathPart, queryPart}
-use Rattle.protocol.specs.Steps.{Brought, tick, requestStep, finish}
+use Rattle.protocol.specs.Request.{requestOf}
+use Rattle.protocol.specs.Steps.{Step, tick, requestStep, finish}
 use Rattle.protocol.specs.Calls.{Inputs, Result, answerRefusal, refusal, brought, stepOf, delivered, unchanged, answerOf, finishRefusal, finishOf, formatRefusal, formatOf, checkOf, unless, sizesRight, requestFits}
-use Rattle.protocol.specs.declared.Method.{Method}
-use Rattle.protocol.specs.declared.Method.the-variants as method
-use Rattle.protocol.specs.declared.Path.{Path}
-use Rattle.protocol.specs.declared.Path.the-variants as path
 use Rattle.protocol.specs.Held.{AllFit}
 use Rattle.protocol.proofs.Laws.{both, length-table, rules, lawful-rules, lawful-fits, lawful-next}
 use Rattle.protocol.proofs.Sound.{Sound, sound-lawful, tick-sound, free-fits}
 use Rattle.protocol.proofs.Kept.{free-right}
-use Rattle.protocol.proofs.Edits.{request-edits, size-edits, size-tick}
+use Rattle.protocol.proofs.Edits.{Edits, request-edits, finish-edits, size-edits, size-tick, reach, reach-rises}
+use Rattle.protocol.proofs.Proper.{request-proper}
 use Rattle.protocol.proofs.Sizes.{length-spliced, small-fits}
-use Rattle.protocol.proofs.Replies.{Fitting, request-fits}
+use Rattle.protocol.proofs.Replies.{Fitting, request-fits, finish-fits}
 use Rattle.protocol.specs.Answers.{replyText}
-use Rattle.protocol.proofs.StepSound.{login-get-sound, login-post-sound, logout-sound}
-use Rattle.protocol.proofs.TicketSound.{validate-sound, proxy-sound, finish-sound}
+use Rattle.protocol.proofs.StepSound.{request-sound, finish-sound}
 
 length-blocks : (m n : ℕ) (s : List ℕ) → length (blocks m n s) ≡ m
 unfolding blocks
@@ -49,19 +45,6 @@ lawful-sound b h e =
       fit = lawful-fits b (omega arith) e;
       few = rw (length-map (blocks (length b / 512 - 1) 512 (drop 512 b)) decodeRec, length-blocks (length b / 512 - 1) 512 (drop 512 b)) (omega arith);
     }
-
--- every request's step
-pub request-sound : (m : Method) (p : Path) (q body : List ℕ) (g : Brought) (t : Table) → length (g .random) ≡ 48 → Sound t → Sound (requestStep m p q body g t .table)
-request-sound method.Get path.Login q body g t h s = login-get-sound q g t h s
-request-sound method.Get path.Logout q body g t h s = logout-sound q g t s
-request-sound method.Get (path.Validate v) q body g t h s = validate-sound v q g t h s
-request-sound method.Get path.Proxy q body g t h s = proxy-sound q g t h s
-request-sound method.Get path.Unknown q body g t h s = s
-request-sound method.Post path.Login q body g t h s = login-post-sound body g t h s
-request-sound method.Post path.Logout q body g t h s = s
-request-sound method.Post (path.Validate v) q body g t h s = s
-request-sound method.Post path.Proxy q body g t h s = s
-request-sound method.Post path.Unknown q body g t h s = s
 
 -- the tests of a call that is not refused
 pub passes : (b : Bool) (n later : ℕ) → 1 ≤ n → unless b n later ≡ 0 → (b ≡ true) × (later ≡ 0)
@@ -110,65 +93,42 @@ started i p = tick-sound (i .time) (decodeTable (i .table)) (p .time) (lawful-so
 
 pub step-sound : (i : Inputs) → Passed i → Sound (stepOf i .table)
 unfolding stepOf
-step-sound i p = request-sound (i .method) (pathNamed (pathPart (i .target))) (queryPart (i .target)) (i .body) (brought i) (tick (i .time) (decodeTable (i .table))) (p .random) (started i p)
+step-sound i p = request-sound (requestOf (i .method) (i .target) (i .body)) (brought i) (tick (i .time) (decodeTable (i .table))) (request-proper (i .method) (i .target) (i .body)) (p .random) (started i p)
 
 pub step-fits : (i : Inputs) → Passed i → Fitting (stepOf i)
 unfolding stepOf
-step-fits i p = request-fits (i .method) (pathNamed (pathPart (i .target))) (queryPart (i .target)) (i .body) (brought i) (tick (i .time) (decodeTable (i .table))) (p .random) (started i p)
+step-fits i p = request-fits (requestOf (i .method) (i .target) (i .body)) (brought i) (tick (i .time) (decodeTable (i .table))) (request-proper (i .method) (i .target) (i .body)) (p .random) (started i p)
 
 -- an answered call leaves a table that the next call will not refuse
 pub answer-lasts : (i : Inputs) → refusal i ≡ 0 → tableLawful (answerOf i .table) ≡ true
 unfolding answerOf delivered
 answer-lasts i e = rw e (sound-lawful (stepOf i .table) (step-sound i (passed i e)))
 
--- no call changes the length of the table, the output or the cookie output
-slots-read : (b : List ℕ) → length (decodeTable b .slots) ≡ length b / 512 - 1
-unfolding decodeTable
-slots-read b = length-map (blocks (length b / 512 - 1) 512 (drop 512 b)) decodeRec ∙ length-blocks (length b / 512 - 1) 512 (drop 512 b)
-
-step-length : (i : Inputs) → length (stepOf i .table .slots) ≡ length (i .table) / 512 - 1
-unfolding stepOf
-step-length i =
-    size-edits (request-edits (i .method) (pathNamed (pathPart (i .target))) (queryPart (i .target)) (i .body) (brought i) (tick (i .time) (decodeTable (i .table))))
-    ∙ size-tick (i .time) (decodeTable (i .table)) ∙ slots-read (i .table)
-
-pub record Lengths (i : Inputs) (r : Result) : Type 0 where
-  pub table : length (r .table) ≡ length (i .table)
-  pub out : length (r .out) ≡ length (i .out)
-  pub cookie : length (r .cookie) ≡ length (i .cookieOut)
-
-answered-lengths : (i : Inputs) → refusal i ≡ 0 → Lengths i (delivered (stepOf i) (i .out) (i .cookieOut))
-unfolding delivered
-answered-lengths i e =
-    let p = passed i e in
-    let f = step-fits i p in
-    let w = both (eqb (length (i .table) % 512) 0) (within 9 128 (length (i .table) / 512)) (p .shape) in
-    let m = eqb-true (length (i .table) % 512) 0 (w .0) in
-    let lo = leb-true 9 (length (i .table) / 512) (both (leb 9 (length (i .table) / 512)) (leb (length (i .table) / 512) 128) (w .1) .0) in
-    record {
-      table = omega (arith, length-table (stepOf i .table) (step-sound i p .fit), step-length i);
-      out = length-spliced (i .out) 0 (replyText (stepOf i .reply)) (omega (arith, small-fits (f .reply), p .out));
-      cookie = length-spliced (i .cookieOut) 0 (stepOf i .cookie) (omega (arith, f .cookie, p .cookie));
-    }
-
-pub answer-lengths : (i : Inputs) → Lengths i (answerOf i)
-unfolding answerOf
-answer-lengths i = go (eqb (refusal i) 0) refl
-  where
-    go : (z : Bool) → eqb (refusal i) 0 ≡ z → Lengths i (if z (delivered (stepOf i) (i .out) (i .cookieOut)) (unchanged (refusal i) (i .table) (i .out) (i .cookieOut)))
-    go true e = answered-lengths i (eqb-true (refusal i) 0 e)
-    go false e = record { table = refl; out = refl; cookie = refl }
-
 -- so does a finished one
-pub finish-lasts : (table : List ℕ) (serial : ℕ) (outcome : Bool) (time : ℕ) (out : List ℕ) → finishRefusal table time (length out) ≡ 0 → tableLawful (finishOf table serial outcome time out .table) ≡ true
-unfolding finishOf delivered finishRefusal
-finish-lasts table serial outcome time out e =
+
+-- what an answered finish knows
+pub record Finishes (table : List ℕ) (time : ℕ) (out : List ℕ) : Type 0 where
+  pub shape : tableShape (length table) ≡ true
+  pub room : 8192 ≤ length out
+  pub sound : Sound (tick time (decodeTable table))
+
+pub finishes : (table : List ℕ) (time : ℕ) (out : List ℕ) → finishRefusal table time (length out) ≡ 0 → Finishes table time out
+unfolding finishRefusal
+finishes table time out e =
     let p1 = passes (tableShape (length table)) 1 _ (omega arith) e in
     let p2 = passes (tableLawful table) 2 _ (omega arith) (p1 .1) in
     let p4 = passes (leb 8192 (length out)) 4 _ (omega arith) (p2 .1) in
     let p6 = passes (leb time lastTime) 6 0 (omega arith) (p4 .1) in
-    let s = tick-sound time (decodeTable table) (leb-true time lastTime (p6 .0)) (lawful-sound table (p1 .0) (p2 .0)) in
-    rw e (sound-lawful (finish serial outcome (tick time (decodeTable table)) .table) (finish-sound serial outcome (tick time (decodeTable table)) s))
+    record {
+      shape = p1 .0;
+      room = leb-true 8192 (length out) (p4 .0);
+      sound = tick-sound time (decodeTable table) (leb-true time lastTime (p6 .0)) (lawful-sound table (p1 .0) (p2 .0));
+    }
+
+pub finish-lasts : (table : List ℕ) (serial : ℕ) (outcome : Bool) (time : ℕ) (out : List ℕ) → finishRefusal table time (length out) ≡ 0 → tableLawful (finishOf table serial outcome time out .table) ≡ true
+unfolding finishOf delivered
+finish-lasts table serial outcome time out e =
+    rw e (sound-lawful (finish serial outcome (tick time (decodeTable table)) .table) (finish-sound serial outcome (tick time (decodeTable table)) (finishes table time out e .sound)))
 
 -- and a formatted table is lawful
 frees-fit : (n : ℕ) → AllFit (replicate n freeRec)

@@ -17,6 +17,11 @@ use Rattle.protocol.specs.Tickets.{markMost, depthLeast, depthMost, text
 use Rattle.protocol.specs.Held.{Sized, Fits, AllFit}
 use Rattle.protocol.specs.Table.{Table, headBody, encodeTable, decodeTable, tableLawful, rulesHold, allRight, sessionRight, parentRight, serialsDiffer, countKind, loginCap, lastTime}
 
+-- by a test
+pub fork : {A : Type 0} (P : A → Type 0) (b : Bool) {x y : A} → (b ≡ true → P x) → (b ≡ false → P y) → P (if b x y)
+fork P true f g = f refl
+fork P false f g = g refl
+
 -- both tests
 pub both : (a b : Bool) → a && b ≡ true → (a ≡ true) × (b ≡ true)
 both true b e = (refl, e)

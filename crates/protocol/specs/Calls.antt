@@ -7,7 +7,7 @@ use lib.ListN.{length}
 use Rattle.protocol.specs.Bytes.{if, isEmpty, spliced}
 use Rattle.protocol.specs.Table.{encodeTable, decodeTable, tableShape, tableLawful, lastTime, formatted}
 use Rattle.protocol.specs.Register.{decodeRegister, registerLawful}
-use Rattle.protocol.specs.Request.{pathPart, queryPart, pathNamed, bodyNames, malformed, fromBody}
+use Rattle.protocol.specs.Request.{Read, Malformed, Given, Posted, posted, requestOf}
 use Rattle.protocol.specs.Answers.{Reply, replyText, replyAnswer, statusOf, serialOf}
 use Rattle.protocol.specs.Steps.{Brought, Step, tick, requestStep, finish}
 use Rattle.protocol.specs.declared.Method.{Method}
@@ -34,32 +34,6 @@ outcomeWith reply cookie cleared =
       «cookie_length» = cookie;
       «cookie_cleared» = cleared;
       «callback_serial» = serialOf (replyAnswer reply);
-    }
-
--- a result with the length of the cookie that was written
-abbrev pub cookied : ℕ → Outcome → Outcome
-cookied n r =
-    record {
-      refusal = r .refusal;
-      answer = r .answer;
-      status = r .status;
-      length = r .length;
-      «cookie_length» = n;
-      «cookie_cleared» = r .«cookie_cleared»;
-      «callback_serial» = r .«callback_serial»;
-    }
-
--- a result with the cookie cleared, or not
-abbrev pub clearedIf : Bool → Outcome → Outcome
-clearedIf ended r =
-    record {
-      refusal = r .refusal;
-      answer = r .answer;
-      status = r .status;
-      length = r .length;
-      «cookie_length» = r .«cookie_length»;
-      «cookie_cleared» = ended;
-      «callback_serial» = r .«callback_serial»;
     }
 
 abbrev pub outcomeOf : Step → Outcome
@@ -121,14 +95,10 @@ broughtBy register cookie random verdict = record { register = decodeRegister re
 abbrev pub brought : Inputs → Brought
 brought i = broughtBy (i .register) (i .cookie) (i .random) (i .verdict)
 
--- and what a validator or proxy reads of it: no cookie and no verdict
-abbrev pub bringing : List ℕ → List ℕ → Brought
-bringing register random = broughtBy register [] random false
-
 -- what the request does to the table after the clock
 unfoldable pub stepOf : Inputs → Step
 stepOf i =
-    requestStep (i .method) (pathNamed (pathPart (i .target))) (queryPart (i .target)) (i .body) (brought i) (tick (i .time) (decodeTable (i .table)))
+    requestStep (requestOf (i .method) (i .target) (i .body)) (brought i) (tick (i .time) (decodeTable (i .table)))
 
 -- the answer's bytes stand in the output, the cookie's in the cookie output; beyond their lengths both are unchanged
 unfoldable pub delivered : Step → List ℕ → List ℕ → Result
@@ -184,13 +154,16 @@ checkOf table = unless (tableShape (length table)) 1 (unless (tableLawful table)
 
 -- the form reader: refusals 4, 5, 7, 8
 
+-- 7 for a malformed body, 8 where username or password is absent
+abbrev pub formLacks : Read Posted → ℕ
+formLacks Malformed = 7
+formLacks (Given p) = unless (not (isEmpty (p .username)) && not (isEmpty (p .password))) 8 0
+
 unfoldable pub formRefusal : List ℕ → ℕ → ℕ → ℕ
 formRefusal body username password =
     unless (leb 64 username && leb 128 password) 4
     (unless (leb (length body) 1024) 5
-    (unless (not (malformed true bodyNames body)) 7
-    (unless (not (isEmpty (fromBody "username" body)) && not (isEmpty (fromBody "password" body))) 8
-    0)))
+    (formLacks (posted body)))
 
 pub record FormRead : Type 0 where
   pub form : Form
@@ -208,8 +181,13 @@ formGiven user word username password =
 abbrev pub formRefused : ℕ → List ℕ → List ℕ → FormRead
 formRefused n username password = formRead (record { refusal = n; «username_length» = 0; «password_length» = 0 }) username password
 
+-- of a body that is not refused
+abbrev pub formBy : Read Posted → List ℕ → List ℕ → FormRead
+formBy Malformed username password = formRefused 7 username password
+formBy (Given p) username password = formGiven (p .username) (p .password) username password
+
 unfoldable pub formOf : List ℕ → List ℕ → List ℕ → FormRead
 formOf body username password =
     if (eqb (formRefusal body (length username) (length password)) 0)
-    (formGiven (fromBody "username" body) (fromBody "password" body) username password)
+    (formBy (posted body) username password)
     (formRefused (formRefusal body (length username) (length password)) username password)

@@ -1,16 +1,16 @@
 -- Words for contracts below the calls: what the bytes of a lent table hold, and what a step has left behind.
 use mathlib.Core.Path.{_≡_}
-use mathlib.Core.Bool.{true, false}
+use mathlib.Core.Bool.{Bool, true, false}
 use mathlib.Core.List.{List, [], _∷_}
 use Prim.Native.Nat.{ℕ, _+_, _*_, _≤_, _<_}
 use lib.ListN.{length}
 use Rattle.protocol.specs.Bytes.{spliced}
 use Rattle.protocol.specs.Records.{Rec}
-use Rattle.protocol.specs.Table.{Table, encodeTable, decodeTable, rulesHold, lastTime}
+use Rattle.protocol.specs.Table.{Table, encodeTable, decodeTable, recAt, rulesHold, lastTime}
 use Rattle.protocol.specs.Register.{registerLawful}
 use Rattle.protocol.specs.Answers.{Reply, replyText}
-use Rattle.protocol.specs.Steps.{Step}
-use Rattle.protocol.specs.Calls.{outcomeWith, outcomeOf}
+use Rattle.protocol.specs.Steps.{Brought, Step}
+use Rattle.protocol.specs.Calls.{outcomeWith, outcomeOf, broughtBy}
 use Rattle.protocol.specs.declared.Outcome.{Outcome}
 
 -- texts and secrets that a record's block has room for
@@ -51,6 +51,17 @@ pub record In (k : ℕ) (b : List ℕ) : Type 0 where
   pub low : 1 ≤ k
   pub high : 512 * k + 512 ≤ length b
 
+-- k is a slot of the table's bytes, or 0 for none
+pub record Within (k : ℕ) (b : List ℕ) : Type 0 where
+  pub high : 512 * k + 512 ≤ length b
+
+-- k is the slot of a live service or proxy ticket
+pub record Spendable (k : ℕ) (b : List ℕ) : Type 0 where
+  pub slot : In k b
+  pub least : 3 ≤ recAt k (decodeTable b .slots) .kind
+  pub most : recAt k (decodeTable b .slots) .kind ≤ 4
+  pub lasts : decodeTable b .clock < recAt k (decodeTable b .slots) .expiry
+
 -- the table that the bytes say keeps the rules, too
 pub record Lawful (b : List ℕ) : Type 0 where
   pub fine : Fine b
@@ -63,6 +74,36 @@ pub record Lent (table register random out : List ℕ) : Type 0 where
   pub panels : registerLawful register ≡ true
   pub drawn : length random ≡ 48
   pub room : 8192 ≤ length out
+
+-- what a validator or proxy reads of what a request brings: no cookie and no verdict
+abbrev pub bringing : List ℕ → List ℕ → Brought
+bringing register random = broughtBy register [] random false
+
+-- a result with the length of the cookie that was written
+abbrev pub cookied : ℕ → Outcome → Outcome
+cookied n r =
+    record {
+      refusal = r .refusal;
+      answer = r .answer;
+      status = r .status;
+      length = r .length;
+      «cookie_length» = n;
+      «cookie_cleared» = r .«cookie_cleared»;
+      «callback_serial» = r .«callback_serial»;
+    }
+
+-- a result with the cookie cleared, or not
+abbrev pub clearedIf : Bool → Outcome → Outcome
+clearedIf ended r =
+    record {
+      refusal = r .refusal;
+      answer = r .answer;
+      status = r .status;
+      length = r .length;
+      «cookie_length» = r .«cookie_length»;
+      «cookie_cleared» = ended;
+      «callback_serial» = r .«callback_serial»;
+    }
 
 -- A reply was said: the result r is one without a cookie, and the output, o before and o′ after it, holds the reply's bytes
 pub record Said (reply : Reply) (r : Outcome) (o o′ : List ℕ) : Type 0 where

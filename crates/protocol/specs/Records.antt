@@ -1,6 +1,20 @@
 -- A record of the table: what its block says, and the rules that it keeps by itself.
 -- 0 kind, 1 mark, 2-3 parent, 4-5 session, 6 depth, 8-11 serial, 16-23 expiry, 24-39 secret,
 -- 40-41 text length, 44-243 text, 256-271 IOU secret, 272-279 sign-on time; every other byte is zero, the check last.
+--
+-- Which field a kind uses; a field that it does not use is zero:
+--
+--   kind               mark  parent      session  depth   text       IOU  sign-on time   secret
+--   0 free             -     -           -        -       -          -    -              -
+--   1 login            -     -           -        -       -          -    -              9
+--   2 session          -     -           -        -       user       -    yes            16
+--   3 service ticket   0, 1  its session yes      -       service    -    -              9
+--   4 proxy ticket     -     a grant     yes      -       service    -    -              9
+--   5 waiting grant    0, 1  a grant, 0  yes      1 to 4  callback   yes  -              16
+--   6 grant            -     a grant, 0  yes      1 to 4  callback   -    -              16
+--   7 visit            -     its session yes      -       service    -    -              9
+--
+-- All but free records have a serial and an expiry.
 use mathlib.Core.Bool.{Bool, true, _&&_}
 use mathlib.Core.List.{List, [], _∷_, _++_}
 use Prim.Native.Nat.{ℕ, _+_}

@@ -1,4 +1,5 @@
--- Reading a request: its path, the pieces of a query or body, and the values of the names that the path uses.
+-- Reading a request: its path, the pieces of a query or body, the values of the names that the path uses, and what it asks by them. The steps
+-- see what it asks and nothing else of it.
 use mathlib.Core.Bool.{Bool, true, false, _&&_, _||_, not}
 use mathlib.Core.List.{List, [], _∷_}
 use Prim.Native.Nat.{ℕ, zero, suc, _+_, _-_, _*_}
@@ -7,6 +8,8 @@ use lib.Dec.{eqb, leb, ltb}
 use lib.ListN.{length, getD}
 use Rattle.protocol.specs.Utf8.{nameRight}
 use Rattle.protocol.specs.Bytes.{if, ascii, same, among, within, allWithin, upTo, past, cuts}
+use Rattle.protocol.specs.declared.Method.{Method}
+use Rattle.protocol.specs.declared.Method.the-variants as method
 use Rattle.protocol.specs.declared.Path.{Path}
 use Rattle.protocol.specs.declared.Path.the-variants as path
 use Rattle.protocol.specs.declared.Validator.{Validator}
@@ -157,3 +160,97 @@ fromBody name q = valueOf true name q
 -- renew and gateway are set when present, with any value
 unfoldable pub present : String → List ℕ → Bool
 present name q = ltb 0 (occurrences (ascii name) q)
+
+-- What a request asks, for each path. An empty text stands for an absent one.
+
+-- malformed, or what was read
+pub data Read (A : Type 0) : Type 0 where
+  Malformed : Read A
+  Given : A → Read A
+
+abbrev pub readUnless : {A : Type 0} → Bool → A → Read A
+readUnless bad a = if bad Malformed (Given a)
+
+-- login, GET
+pub record Asked : Type 0 where
+  pub service : List ℕ
+  pub renew : Bool
+  pub gateway : Bool
+
+abbrev pub asking : List ℕ → Bool → Bool → Asked
+asking service renew gateway = record { service = service; renew = renew; gateway = gateway }
+
+unfoldable pub asked : List ℕ → Read Asked
+asked q = readUnless (malformed false loginNames q) (asking (fromQuery "service" q) (present "renew" q) (present "gateway" q))
+
+-- login, POST
+pub record Posted : Type 0 where
+  pub service : List ℕ
+  pub username : List ℕ
+  pub password : List ℕ
+  pub lt : List ℕ
+
+unfoldable pub posted : List ℕ → Read Posted
+posted body =
+    readUnless (malformed true bodyNames body)
+    (record { service = fromBody "service" body; username = fromBody "username" body; password = fromBody "password" body; lt = fromBody "lt" body })
+
+-- logout: its url
+unfoldable pub leaving : List ℕ → Read (List ℕ)
+leaving q = readUnless (malformed false logoutNames q) (fromQuery "url" q)
+
+-- the validators
+pub record Shown : Type 0 where
+  pub service : List ℕ
+  pub ticket : List ℕ
+  pub renew : Bool
+  pub pgtUrl : List ℕ
+
+-- which validate does not read
+abbrev pub urlShown : Validator → List ℕ → List ℕ
+urlShown validator.Plain q = []
+urlShown validator.Service q = fromQuery "pgtUrl" q
+urlShown validator.Proxy q = fromQuery "pgtUrl" q
+
+unfoldable pub shown : Validator → List ℕ → Read Shown
+shown v q =
+    readUnless (malformed false (validatorNames v) q)
+    (record { service = fromQuery "service" q; ticket = fromQuery "ticket" q; renew = present "renew" q; pgtUrl = urlShown v q })
+
+-- proxy
+pub record Wanted : Type 0 where
+  pub pgt : List ℕ
+  pub target : List ℕ
+
+unfoldable pub wanted : List ℕ → Read Wanted
+wanted q = readUnless (malformed false proxyNames q) (record { pgt = fromQuery "pgt" q; target = fromQuery "targetService" q })
+
+-- a request, read: by its path and method
+pub data Request : Type 0 where
+  NoPath : Request
+  NotTaken : Request
+  LoginGet : Read Asked → Request
+  LoginPost : Read Posted → Request
+  Logout : Read (List ℕ) → Request
+  Validate : Validator → Read Shown → Request
+  Proxy : Read Wanted → Request
+
+-- GET reads the query
+abbrev pub getRequest : Path → List ℕ → Request
+getRequest path.Login q = LoginGet (asked q)
+getRequest path.Logout q = Logout (leaving q)
+getRequest (path.Validate v) q = Validate v (shown v q)
+getRequest path.Proxy q = Proxy (wanted q)
+getRequest path.Unknown q = NoPath
+
+-- POST reads the body only, and only login takes it
+abbrev pub postRequest : Path → List ℕ → Request
+postRequest path.Login body = LoginPost (posted body)
+postRequest path.Logout body = NotTaken
+postRequest (path.Validate v) body = NotTaken
+postRequest path.Proxy body = NotTaken
+postRequest path.Unknown body = NoPath
+
+abbrev pub requestOf : Method → List ℕ → List ℕ → Request
+requestOf method.Get target body = getRequest (pathNamed (pathPart target)) (queryPart target)
+requestOf method.Post target body = postRequest (pathNamed (pathPart target)) body

@@ -8,14 +8,18 @@ use Rattle.protocol.specs.Tickets.{aFree, aLogin, aSession, aService, aP
 use Rattle.protocol.specs.Records.{Rec, freeRec, nameOf, live}
 use Rattle.protocol.specs.Table.{Table, tableOf, recAt, putAt, slotWhere, countKind, loginCap}
 use Rattle.protocol.specs.Register.{Entry, registered, callbackOf}
-use Rattle.protocol.specs.Request.{loginNames, bodyNames, logoutNames, validatorNames, proxyNames, malformed, fromQuery, fromBody, present}
+use Rattle.protocol.specs.Request.{Read, Malformed, Given, Asked, Posted, Shown, Wanted, Request, NoPath, NotTaken, LoginGet, LoginPost, Logout, Validate, Proxy}
 use Rattle.protocol.specs.Answers.{Code, InvalidRequest, InvalidTicket, InvalidService, BadPgt, UnauthorizedService, InternalError, Reply, ErrorPage, SignedIn, SignedOut, FormPage, RedirectTo, YesNo, Success, Failure, ProxySuccess, ProxyFailure, CallbackTo}
-use Rattle.protocol.specs.declared.Method.{Method}
-use Rattle.protocol.specs.declared.Method.the-variants as method
-use Rattle.protocol.specs.declared.Path.{Path}
-use Rattle.protocol.specs.declared.Path.the-variants as path
 use Rattle.protocol.specs.declared.Validator.{Validator}
 use Rattle.protocol.specs.declared.Validator.the-variants as validator
+use Rattle.protocol.specs.declared.Way.{Way}
+use Rattle.protocol.specs.declared.Way.the-variants as way
+use Rattle.protocol.specs.declared.Admission.{Admission}
+use Rattle.protocol.specs.declared.Admission.the-variants as admission
+use Rattle.protocol.specs.declared.Standing.{Standing}
+use Rattle.protocol.specs.declared.Standing.the-variants as standing
+use Rattle.protocol.specs.declared.Ruling.{Ruling}
+use Rattle.protocol.specs.declared.Ruling.the-variants as ruling
 
 -- what a request brings besides its parameters
 pub record Brought : Type 0 where
@@ -104,6 +108,25 @@ newRec kind mark parent session depth text random t =
       since = sinceFrom kind (t .clock);
     }
 
+-- of each kind that a request makes
+abbrev pub newLogin : List ℕ → Table → Rec
+newLogin random t = newRec aLogin 0 0 0 0 [] random t
+
+abbrev pub newSession : List ℕ → List ℕ → Table → Rec
+newSession user random t = newRec aSession 0 0 0 0 user random t
+
+-- its session is its parent
+abbrev pub newService : ℕ → ℕ → List ℕ → List ℕ → Table → Rec
+newService mark s service random t = newRec aService mark s s 0 service random t
+
+-- one deeper than its parent grant, or at depth 1 without one
+abbrev pub newWaiting : ℕ → ℕ → ℕ → List ℕ → List ℕ → Table → Rec
+newWaiting mark parent session url random t = newRec aWaiting mark parent session (recAt parent (t .slots) .depth + 1) url random t
+
+-- of its grant's session
+abbrev pub newProxy : ℕ → List ℕ → List ℕ → Table → Rec
+newProxy k target random t = newRec aProxy 0 k (recAt k (t .slots) .session) 0 target random t
+
 -- it is added, and the serials rise by one, to 0 when all are used
 unfoldable pub add : Rec → Table → Table
 add r t = tableOf (t .clock) ((t .next + 1) % 2 ^ 32) (putAt (slotFor t) r (t .slots))
@@ -129,7 +152,7 @@ formWith r status service t = step (add r t) (FormPage status (nameOf r) service
 unfoldable pub formStep : ℕ → List ℕ → List ℕ → Table → Step
 formStep status service random t =
     if (roomFor 1 t && ltb (countKind aLogin (t .slots)) loginCap)
-    (formWith (newRec aLogin 0 0 0 0 [] random t) status service t)
+    (formWith (newLogin random t) status service t)
     (step t (ErrorPage 503))
 
 -- a redirect to the service with a new ticket of a mark for a session; the cookie is the one to be written
@@ -138,9 +161,21 @@ ticketWith r service cookie t =
     record { table = add r t; reply = RedirectTo service (nameOf r); cookie = cookie; cleared = false }
 
 unfoldable pub ticketStep : ℕ → ℕ → List ℕ → List ℕ → List ℕ → Table → Step
-ticketStep mark s service random cookie t = ticketWith (newRec aService mark s s 0 service random t) service cookie t
+ticketStep mark s service random cookie t = ticketWith (newService mark s service random t) service cookie t
 
--- a live session and no renew
+-- a service that is given and not in the register
+unfoldable pub unknownService : List ℕ → List Entry → Bool
+unknownService service register = not (isEmpty service) && not (registered service register)
+
+-- login, GET: which way it goes. Gateway does not count with renew or without service
+unfoldable pub wayOf : Asked → Brought → Table → Way
+wayOf a g t =
+    if (unknownService (a .service) (g .register)) way.Unknown
+    (if (not (a .renew) && ltb 0 (sessionOf (g .cookie) t)) (way.SignedOn (sessionOf (g .cookie) t))
+    (if (a .gateway && not (a .renew) && not (isEmpty (a .service))) way.Away
+    way.Form))
+
+-- a live session and no renew: without service the page, else a ticket of mark 0
 unfoldable pub signedOn : ℕ → List ℕ → List ℕ → Table → Step
 signedOn s service random t =
     if (isEmpty service)
@@ -149,26 +184,16 @@ signedOn s service random t =
     (ticketStep 0 s service random [] t)
     (step t (ErrorPage 503)))
 
--- login, GET, once its service is known: gateway does not count with renew or without service
-unfoldable pub loginPage : List ℕ → Bool → Bool → Brought → Table → Step
-loginPage service renew gateway g t =
-    if (not renew && ltb 0 (sessionOf (g .cookie) t))
-    (signedOn (sessionOf (g .cookie) t) service (g .random) t)
-    (if (gateway && not renew && not (isEmpty service))
-    (step t (RedirectTo service []))
-    (formStep 200 service (g .random) t))
+-- and what is done on each way
+unfoldable pub taken : Way → List ℕ → List ℕ → Table → Step
+taken way.Unknown service random t = step t (ErrorPage 403)
+taken (way.SignedOn s) service random t = signedOn s service random t
+taken way.Away service random t = step t (RedirectTo service [])
+taken way.Form service random t = formStep 200 service random t
 
--- a service that is given and not in the register
-unfoldable pub unknownService : List ℕ → List Entry → Bool
-unknownService service register = not (isEmpty service) && not (registered service register)
-
-unfoldable pub loginGet : List ℕ → Brought → Table → Step
-loginGet q g t =
-    if (malformed false loginNames q)
-    (step t (ErrorPage 400))
-    (if (unknownService (fromQuery "service" q) (g .register))
-    (step t (ErrorPage 403))
-    (loginPage (fromQuery "service" q) (present "renew" q) (present "gateway" q) g t))
+unfoldable pub loginGet : Read Asked → Brought → Table → Step
+loginGet Malformed g t = step t (ErrorPage 400)
+loginGet (Given a) g t = taken (wayOf a g t) (a .service) (g .random) t
 
 -- signed in under a session: with service a ticket of mark 1 and a redirect, else the page
 unfoldable pub admitted : ℕ → List ℕ → List ℕ → List ℕ → Table → Step
@@ -177,49 +202,62 @@ admitted s service random cookie t =
     (record { table = t; reply = SignedIn; cookie = cookie; cleared = false })
     (ticketStep 1 s service random cookie t)
 
--- signed in under a new session, which takes its slot and serial first
-unfoldable pub newSession : Rec → List ℕ → List ℕ → Table → Step
-newSession r service random t = admitted (slotFor t) service random (nameOf r) (add r t)
-
--- how many records the call would issue
+-- how many records the call would issue: a session where none is kept, a ticket with service
 unfoldable pub needs : Bool → List ℕ → ℕ
 needs keeps service = if keeps 0 1 + if (isEmpty service) 0 1
 
--- accepted, where the cookie's session is kept or not (then s is not read), or has ended: all that it would issue, or 503
-unfoldable pub issueAll : Bool → Bool → ℕ → List ℕ → List ℕ → List ℕ → Table → Step
-issueAll keeps ended s user service random t =
-    if (roomFor (needs keeps service) t)
-    (if keeps
-    (admitted s service random [] t)
-    (newSession (newRec aSession 0 0 0 0 user random t) service random t))
+-- a session that is kept: all that the call would issue, or 503
+unfoldable pub keepSession : ℕ → List ℕ → List ℕ → Table → Step
+keepSession s service random t =
+    if (roomFor (needs true service) t) (admitted s service random [] t) (step t (ErrorPage 503))
+
+-- a new session takes its slot and serial first
+unfoldable pub sessionWith : Rec → List ℕ → List ℕ → Table → Step
+sessionWith r service random t = admitted (slotFor t) service random (nameOf r) (add r t)
+
+-- none is kept, and the cookie's has ended or there was none: all that the call would issue, or 503, which clears the cookie of one that has ended
+unfoldable pub openSession : Bool → List ℕ → List ℕ → List ℕ → Table → Step
+openSession ended user service random t =
+    if (roomFor (needs false service) t)
+    (sessionWith (newSession user random t) service random t)
     (record { table = t; reply = ErrorPage 503; cookie = []; cleared = ended })
 
+-- whose session stands in slot s, 0 for none
+unfoldable pub standingOf : ℕ → List ℕ → Table → Standing
+standingOf s user t =
+    if (eqb s 0) standing.Absent
+    (if (same (recAt s (t .slots) .text) user) (standing.Kept s)
+    (standing.Other s))
+
 -- accepted: the cookie's live session is kept if of the same user, else ended
+unfoldable pub admits : Standing → List ℕ → List ℕ → List ℕ → Table → Step
+admits standing.Absent user service random t = openSession false user service random t
+admits (standing.Kept s) user service random t = keepSession s service random t
+admits (standing.Other s) user service random t = openSession true user service random (endSession s t)
+
 unfoldable pub accepted : ℕ → List ℕ → List ℕ → List ℕ → Table → Step
-accepted s user service random t =
-    if (eqb s 0)
-    (issueAll false false s user service random t)
-    (if (same (recAt s (t .slots) .text) user)
-    (issueAll true false s user service random t)
-    (issueAll false true s user service random (endSession s t)))
+accepted s user service random t = admits (standingOf s user t) user service random t
 
--- login, POST, once the login ticket in slot k is removed (0: it was not live)
-unfoldable pub credentials : ℕ → List ℕ → Brought → Table → Step
-credentials k body g t =
-    if (unknownService (fromBody "service" body) (g .register))
-    (step t (ErrorPage 403))
-    (if (eqb k 0 || isEmpty (fromBody "username" body) || isEmpty (fromBody "password" body) || not (g .verdict))
-    (formStep 401 (fromBody "service" body) (g .random) t)
-    (accepted (sessionOf (g .cookie) t) (fromBody "username" body) (fromBody "service" body) (g .random) t))
+-- login, POST: what becomes of the credentials; the login ticket was in slot k (0: it was not live), and username or password may be absent
+unfoldable pub admissionOf : ℕ → List ℕ → Bool → Brought → Admission
+admissionOf k service absent g =
+    if (unknownService service (g .register)) admission.Unknown
+    (if (eqb k 0 || absent || not (g .verdict)) admission.Again
+    admission.Accepted)
 
-unfoldable pub loginTicket : List ℕ → Table → ℕ
-loginTicket body t = slotNamed aLogin (fromBody "lt" body) t
+-- and what is done
+unfoldable pub entered : Admission → List ℕ → List ℕ → Brought → Table → Step
+entered admission.Unknown user service g t = step t (ErrorPage 403)
+entered admission.Again user service g t = formStep 401 service (g .random) t
+entered admission.Accepted user service g t = accepted (sessionOf (g .cookie) t) user service (g .random) t
 
-unfoldable pub loginPost : List ℕ → Brought → Table → Step
-loginPost body g t =
-    if (malformed true bodyNames body)
-    (step t (ErrorPage 400))
-    (credentials (loginTicket body t) body g (remove (loginTicket body t) t))
+-- once the login ticket in slot k is removed
+unfoldable pub credentials : ℕ → Posted → Brought → Table → Step
+credentials k p g t = entered (admissionOf k (p .service) (isEmpty (p .username) || isEmpty (p .password)) g) (p .username) (p .service) g t
+
+unfoldable pub loginPost : Read Posted → Brought → Table → Step
+loginPost Malformed g t = step t (ErrorPage 400)
+loginPost (Given p) g t = credentials (slotNamed aLogin (p .lt) t) p g (remove (slotNamed aLogin (p .lt) t) t)
 
 -- validators
 
@@ -243,21 +281,13 @@ failed v code = if (isPlain v) (YesNo false) (Failure code)
 abbrev pub proxyParent : Rec → ℕ
 proxyParent r = if (eqb (r .kind) aProxy) (r .parent) 0
 
--- a waiting grant below a parent, with its ticket's mark, and its callback
-unfoldable pub waitingWith : Rec → Table → Step
-waitingWith w t = step (add w t) (CallbackTo (w .text) (nameOf w) (iouText (w .iou)) (w .serial))
-
-unfoldable pub waitingStep : Rec → List ℕ → List ℕ → Table → Step
-waitingStep r pgtUrl random t =
-    waitingWith (newRec aWaiting (r .mark) (proxyParent r) (r .session) (recAt (proxyParent r) (t .slots) .depth + 1) pgtUrl random t) t
-
--- a grant is made where pgtUrl is the nonempty callback of the service, the new depth is at most 4 and a serial is left
-unfoldable pub grants : Rec → List ℕ → Brought → Table → Bool
-grants r pgtUrl g t =
-    not (isEmpty pgtUrl)
-    && same pgtUrl (callbackOf (r .text) (g .register))
-    && leb (recAt (proxyParent r) (t .slots) .depth + 1) deepest
-    && roomFor 1 t
+-- (3) to (5): a proxy ticket outside proxyValidate, renew without the mark, another service; else accepted
+unfoldable pub rulingOf : Validator → Bool → List ℕ → Rec → Ruling
+rulingOf v renew service r =
+    if (eqb (r .kind) aProxy && not (takesProxies v)) ruling.NoTicket
+    (if (renew && eqb (r .mark) 0) ruling.NoTicket
+    (if (same (r .text) service) (ruling.Accepted (r .session) (proxyParent r) (r .mark))
+    ruling.NoService))
 
 -- a record changes its kind in place: its mark and IOU secret are cleared, and it lasts as long as its session
 unfoldable pub turned : ℕ → Rec → List Rec → Rec
@@ -280,38 +310,49 @@ turned kind r slots =
 unfoldable pub leftBy : ℕ → Rec → Table → Table
 leftBy k r t = if (eqb (r .kind) aService) (put k (turned aVisit r (t .slots)) t) t
 
--- (6) the ticket r is accepted; t is the table with what it left
-unfoldable pub acceptTicket : Validator → Rec → List ℕ → Brought → Table → Step
-acceptTicket v r pgtUrl g t =
-    if (isPlain v)
-    (step t (YesNo true))
-    (if (grants r pgtUrl g t)
-    (waitingStep r pgtUrl (g .random) t)
-    (step t (successOf (r .session) (r .mark) [] (proxyParent r) (t .slots))))
+-- a grant is made below a parent where the url is the nonempty callback of the service, the new depth is at most 4, and a slot and a serial are left
+unfoldable pub grants : ℕ → List ℕ → List ℕ → Brought → Table → Bool
+grants parent service url g t =
+    not (isEmpty url)
+    && same url (callbackOf service (g .register))
+    && leb (recAt parent (t .slots) .depth + 1) deepest
+    && roomFor 1 t
 
--- (3) to (6): the ticket r has been removed from slot k
-unfoldable pub judgeTicket : Validator → ℕ → Rec → List ℕ → Brought → Table → Step
-judgeTicket v k r q g t =
-    if (eqb (r .kind) aProxy && not (takesProxies v))
-    (step t (failed v InvalidTicket))
-    (if (present "renew" q && eqb (r .mark) 0)
-    (step t (failed v InvalidTicket))
-    (if (same (r .text) (fromQuery "service" q))
-    (acceptTicket v r (fromQuery "pgtUrl" q) g (leftBy k r t))
-    (step t (failed v InvalidService))))
+-- a waiting grant and its callback
+unfoldable pub waitingWith : Rec → Table → Step
+waitingWith w t = step (add w t) (CallbackTo (w .text) (nameOf w) (iouText (w .iou)) (w .serial))
+
+-- a waiting grant with its ticket's mark, or success without grant
+unfoldable pub grantOrTell : ℕ → ℕ → ℕ → List ℕ → List ℕ → Brought → Table → Step
+grantOrTell session parent mark service url g t =
+    if (grants parent service url g t)
+    (waitingWith (newWaiting mark parent session url (g .random) t) t)
+    (step t (successOf session mark [] parent (t .slots)))
+
+-- (6) a ticket of a session, with a parent for its proxies and a mark, is accepted; t is the table with what it left
+unfoldable pub acceptTicket : Validator → ℕ → ℕ → ℕ → List ℕ → List ℕ → Brought → Table → Step
+acceptTicket v session parent mark service url g t = if (isPlain v) (step t (YesNo true)) (grantOrTell session parent mark service url g t)
+
+-- by the ruling; the ticket r has been removed from slot k, whatever is said of it
+unfoldable pub ruled : Ruling → Validator → ℕ → Rec → List ℕ → List ℕ → Brought → Table → Step
+ruled ruling.NoTicket v k r service url g t = step t (failed v InvalidTicket)
+ruled ruling.NoService v k r service url g t = step t (failed v InvalidService)
+ruled (ruling.Accepted session parent mark) v k r service url g t = acceptTicket v session parent mark service url g (leftBy k r t)
 
 -- (2) a live service or proxy ticket in slot k, or none
-unfoldable pub presented : Validator → ℕ → List ℕ → Brought → Table → Step
-presented v k q g t =
+unfoldable pub presented : Validator → ℕ → Bool → List ℕ → List ℕ → Brought → Table → Step
+presented v k renew service url g t =
     if (eqb k 0)
     (step t (failed v InvalidTicket))
-    (judgeTicket v k (recAt k (t .slots)) q g (remove k t))
+    (ruled (rulingOf v renew service (recAt k (t .slots))) v k (recAt k (t .slots)) service url g (remove k t))
 
-unfoldable pub validate : Validator → List ℕ → Brought → Table → Step
-validate v q g t =
-    if (malformed false (validatorNames v) q || isEmpty (fromQuery "service" q) || isEmpty (fromQuery "ticket" q))
+-- (1) malformed, service or ticket absent: nothing is spent
+unfoldable pub validate : Validator → Read Shown → Brought → Table → Step
+validate v Malformed g t = step t (failed v InvalidRequest)
+validate v (Given a) g t =
+    if (isEmpty (a .service) || isEmpty (a .ticket))
     (step t (failed v InvalidRequest))
-    (presented v (ticketSlot (fromQuery "ticket" q) t) q g t)
+    (presented v (ticketSlot (a .ticket) t) (a .renew) (a .service) (a .pgtUrl) g t)
 
 -- finish
 
@@ -347,48 +388,39 @@ proxyBy k target g t =
     (step t (ProxyFailure BadPgt))
     (if (registered target (g .register))
     (if (roomFor 1 t)
-    (proxyWith (newRec aProxy 0 k (recAt k (t .slots) .session) 0 target (g .random) t) t)
+    (proxyWith (newProxy k target (g .random) t) t)
     (step t (ProxyFailure InternalError)))
     (step t (ProxyFailure UnauthorizedService)))
 
-unfoldable pub proxy : List ℕ → Brought → Table → Step
-proxy q g t =
-    if (malformed false proxyNames q || isEmpty (fromQuery "pgt" q) || isEmpty (fromQuery "targetService" q))
+unfoldable pub proxy : Read Wanted → Brought → Table → Step
+proxy Malformed g t = step t (ProxyFailure InvalidRequest)
+proxy (Given a) g t =
+    if (isEmpty (a .pgt) || isEmpty (a .target))
     (step t (ProxyFailure InvalidRequest))
-    (proxyBy (slotNamed aGrant (fromQuery "pgt" q) t) (fromQuery "targetService" q) g t)
+    (proxyBy (slotNamed aGrant (a .pgt) t) (a .target) g t)
 
 -- logout
+
+-- the table without the session that a cookie names
+unfoldable pub withoutSession : List ℕ → Table → Table
+withoutSession cookie t = if (eqb (sessionOf cookie t) 0) t (endSession (sessionOf cookie t) t)
 
 -- the link stands only if url is a registered service
 unfoldable pub linkTo : List ℕ → List Entry → List ℕ
 linkTo url register = if (registered url register) url []
 
-unfoldable pub logout : List ℕ → Brought → Table → Step
-logout q g t =
-    if (malformed false logoutNames q)
-    (step t (ErrorPage 400))
-    (record {
-      table = if (eqb (sessionOf (g .cookie) t) 0) t (endSession (sessionOf (g .cookie) t) t);
-      reply = SignedOut (linkTo (fromQuery "url" q) (g .register));
-      cookie = [];
-      cleared = true;
-    })
+-- the cookie is cleared even without a session, and not where the request is malformed
+unfoldable pub logout : Read (List ℕ) → Brought → Table → Step
+logout Malformed g t = step t (ErrorPage 400)
+logout (Given url) g t =
+    record { table = withoutSession (g .cookie) t; reply = SignedOut (linkTo url (g .register)); cookie = []; cleared = true }
 
--- a request by its path and method: an unknown path 404, POST to another path than login 405
-abbrev pub getStep : Path → List ℕ → Brought → Table → Step
-getStep path.Login q g t = loginGet q g t
-getStep path.Logout q g t = logout q g t
-getStep (path.Validate v) q g t = validate v q g t
-getStep path.Proxy q g t = proxy q g t
-getStep path.Unknown q g t = step t (ErrorPage 404)
-
-abbrev pub postStep : Path → List ℕ → Brought → Table → Step
-postStep path.Login body g t = loginPost body g t
-postStep path.Logout body g t = step t (ErrorPage 405)
-postStep (path.Validate v) body g t = step t (ErrorPage 405)
-postStep path.Proxy body g t = step t (ErrorPage 405)
-postStep path.Unknown body g t = step t (ErrorPage 404)
-
-abbrev pub requestStep : Method → Path → List ℕ → List ℕ → Brought → Table → Step
-requestStep method.Get p q body g t = getStep p q g t
-requestStep method.Post p q body g t = postStep p body g t
+-- a request: an unknown path 404, POST to another path than login 405
+unfoldable pub requestStep : Request → Brought → Table → Step
+requestStep NoPath g t = step t (ErrorPage 404)
+requestStep NotTaken g t = step t (ErrorPage 405)
+requestStep (LoginGet a) g t = loginGet a g t
+requestStep (LoginPost p) g t = loginPost p g t
+requestStep (Logout url) g t = logout url g t
+requestStep (Validate v a) g t = validate v a g t
+requestStep (Proxy a) g t = proxy a g t

@@ -61,7 +61,7 @@ unfoldable pub serialsDiffer : List Rec → Bool
 serialsDiffer [] = true
 serialsDiffer (r ∷ rs) = (eqb (r .kind) aFree || not (serialTaken (r .serial) rs)) && serialsDiffer rs
 
--- a session is named: none by free records, logins and sessions; else a live one that lasts as long, and equally long for a grant or a visit
+-- a session is named: none by free records, logins and sessions; else a record of kind 2 that expires no earlier, and at the same second for a grant or a visit
 unfoldable pub sessionRight : List Rec → Rec → Bool
 sessionRight slots r =
     if (ltb (r .kind) aService)

@@ -1,5 +1,5 @@
 // The types of the interface: what a request is, what a call answers, and what reading a form, asking for a visit
-// or checking a register gives. And dates, of which meaning and code speak alike.
+// or checking a register gives. And what a step decides before it acts, and dates, of which meaning and code speak alike.
 
 pub enum Method {
     Get,
@@ -20,6 +20,40 @@ pub enum Path {
     Validate(Validator),
     Proxy,
     Unknown,
+}
+
+// What login by GET comes to.
+pub enum Way {
+    // the service is not in the register
+    Unknown,
+    // a live session, in its slot, and no renew
+    SignedOn(usize),
+    // a gateway that counts
+    Away,
+    Form,
+}
+
+// What becomes of credentials.
+pub enum Admission {
+    // the service is not in the register
+    Unknown,
+    // the form again
+    Again,
+    Accepted,
+}
+
+// Whose session the cookie names: nobody's, the user's own or another's, in its slot.
+pub enum Standing {
+    Absent,
+    Kept(usize),
+    Other(usize),
+}
+
+// What is to be said of a live ticket. Of an accepted one: its session, where its proxies start, 0 for none, and its mark.
+pub enum Ruling {
+    NoTicket,
+    NoService,
+    Accepted { session: u16, parent: u16, mark: u8 },
 }
 
 // What was answered, each with its own data: a page and its status, a redirect and whether it carries a ticket,

@@ -1,40 +1,38 @@
 -- Proxy, from its parts to protocol's step. Assumes nothing.
-use mathlib.Core.Path.{_≡_, refl, sym, _∙_}
-use mathlib.Core.Bool.{Bool, true, false}
-use mathlib.Core.List.{List}
+use mathlib.Core.Path.{_≡_, refl, sym, ap, _∙_}
+use mathlib.Core.Bool.{Bool, true, false, _||_}
+use mathlib.Core.List.{List, [], _∷_}
 use Prim.Native.Nat.{ℕ, zero, suc, _≤_}
 use native.Mathlib.Omega.{arith}
 use lib.Dec.{eqb}
-use lib.ListN.{length, take, replicate}
-use lib.Seq.{length-take-le}
+use lib.ListN.{length, take}
 use borrow.Author.Tests.{eq-eqb, ne-eqb}
-use Rattle.protocol.specs.Bytes.{if, ascii, isEmpty}
+use Rattle.protocol.specs.Bytes.{isEmpty, same, among}
 use Rattle.protocol.specs.Tickets.{aProxy, aGrant}
 use Rattle.protocol.specs.Table.{Table, decodeTable, recAt}
 use Rattle.protocol.specs.Register.{decodeRegister, registered}
-use Rattle.protocol.specs.Request.{malformed, proxyNames, fromQuery, valueOf, decoded, rawValue}
+use Rattle.protocol.specs.Request.{Malformed, Given, wanted, valueMost}
 use Rattle.protocol.specs.Written.{Wrote}
 use Rattle.protocol.specs.Answers.{ProxyFailure, InvalidRequest, BadPgt, UnauthorizedService, InternalError}
 use Rattle.protocol.specs.Steps.{Brought, slotNamed, roomFor, newRec, proxyWith, proxyBy, proxy}
-use Rattle.protocol.specs.Held.{Fine, Lawful, In, Said, Done, Lent}
+use Rattle.protocol.specs.Held.{Fine, Lawful, In, Said, Done, Lent, bringing}
 use Rattle.protocol.specs.declared.Outcome.{Outcome}
 use Rattle.protocol.proofs.Held.{sound-held, slot-in}
 use Rattle.protocol.proofs.Told.{only-said}
 use Rattle.protocol.proofs.Kept.{SessionView, unnamed, named, session-view, recs3, right-slot}
-use Rattle.protocol.proofs.StepSound.{slot-live, slot-within}
-use Rattle.protocol.specs.Calls.{bringing}
-use Rattle.protocol.proofs.Laws.{or-true}
-use Rattle.offer.proofs.Laws.{none-given, some-given}
-use Rattle.find.specs.Searches.{foundAt}
-use Rattle.find.specs.declared.Found.{Found}
-use Rattle.find.specs.declared.Found.the-variants.{At, Nothing}
-use Rattle.find.proofs.Laws.{found-is, found-low, found-none, named-slot}
-use Rattle.request.specs.Requests.{Ready, proxyQueryOf}
+use Rattle.protocol.proofs.Searches.{empty, slot-live, slot-within}
+use Rattle.table_find.specs.Searches.{foundAt}
+use Rattle.table_find.specs.declared.Found.{Found}
+use Rattle.table_find.specs.declared.Found.the-variants.{At, Nothing}
+use Rattle.table_find.proofs.Laws.{found-is, found-low, found-none, named-slot}
+use Rattle.request.specs.Value.{valueAt}
+use Rattle.request.specs.Spelled.{spelledWanted, WantedFits, WantedIn}
+use Rattle.request.specs.declared.Value.{Value}
 use Rattle.request.specs.declared.ProxyQuery.{ProxyQuery}
 use Rattle.request.specs.declared.ProxyQuery.the-variants as proxy-query
-use Rattle.request.proofs.Values.{proxy-told, proxy-pgt, proxy-target, read-front}
-use Rattle.offer.specs.Offers.{Offer}
-use Rattle.proxy.specs.Asking.{Live, proxyFor}
+use Rattle.text.proofs.Splice.{read-back}
+use Rattle.issue.specs.Offers.{Offer}
+use Rattle.proxy.specs.Asking.{Live, Values, proxyFor}
 
 -- a live grant's slot, and its session's
 session-slot : (b : List ℕ) (s : ℕ) → recAt s (decodeTable b .slots) .kind ≡ 2 → In s b
@@ -101,62 +99,39 @@ module _ (b o o′ pgt target : List ℕ) (g : Brought) {r : Outcome} {f : Found
   unfolding proxyFor proxyBy
   no-grant a h s = rw (eq-eqb (slotNamed aGrant pgt (decodeTable b)) 0 (found-none (slotNamed aGrant pgt (decodeTable b)) e a)) (only-said h s)
 
-module _ (q : List ℕ) {x : ProxyQuery} (e : x ≡ proxyQueryOf q) where
-  pub proxy-refused : (b o o′ : List ℕ) (g : Brought) {r : Outcome} → x ≡ proxy-query.Malformed → Fine b → Said (ProxyFailure InvalidRequest) r o o′ → Done (proxy q g (decodeTable b)) r b o o′
-  unfolding proxy proxyQueryOf
-  proxy-refused b o o′ g {r} m f s = go (malformed false proxyNames q) refl (sym m ∙ e)
-    where
-      go : (z : Bool) → malformed false proxyNames q ≡ z
-          → proxy-query.Malformed ≡ if z proxy-query.Malformed (proxy-query.Given (length (fromQuery "pgt" q)) (length (fromQuery "targetService" q))) → Done (proxy q g (decodeTable b)) r b o o′
-      go true w v = rw w (only-said f s)
-      go false w v = absurd (let y : _≡_ {A = ℕ} 0 1 = cc in omega arith)
+-- By what was read
 
-  module _ {p t : ℕ} (m : x ≡ proxy-query.Given p t) where
-    pub well-formed : malformed false proxyNames q ≡ false
-    well-formed = proxy-told q p t x e m .fine
+module _ (q : List ℕ) (x : ProxyQuery) (k : WantedIn q x) where
+  pub proxy-refused : (b o o′ : List ℕ) (g : Brought) {r : Outcome} → x ≡ proxy-query.Malformed → Fine b → Said (ProxyFailure InvalidRequest) r o o′ → Done (proxy (wanted q) g (decodeTable b)) r b o o′
+  unfolding proxy
+  proxy-refused b o o′ g e f s =
+      let m : Malformed ≡ wanted q = sym (ap (spelledWanted q) e) ∙ k .spells in
+      rw (sym m) (only-said f s)
+
+  module _ {p t : Value} (e : x ≡ proxy-query.Given p t) where
+    pub values-in : Values q p t
+    unfolding valueMost among same
+    values-in = let f : WantedFits q (proxy-query.Given p t) = rw e at (k .fits) in record { pgt = f .0; target = f .1 }
+
+    asks : Given (record { pgt = valueAt false q p; target = valueAt false q t }) ≡ wanted q
+    asks = sym (ap (spelledWanted q) e) ∙ k .spells
+
+    lacks : isEmpty (valueAt false q p) || isEmpty (valueAt false q t) ≡ eqb (p .length) 0 || eqb (t .length) 0
+    lacks = rw (empty (valueAt false q p) (p .length) (values-in .pgt .long), empty (valueAt false q t) (t .length) (values-in .target .long))
 
     module _ (b o o′ : List ℕ) (g : Brought) {r : Outcome} where
-      pub absent-pgt : p ≡ 0 → Fine b → Said (ProxyFailure InvalidRequest) r o o′ → Done (proxy q g (decodeTable b)) r b o o′
+      pub absent : eqb (p .length) 0 || eqb (t .length) 0 ≡ true → Fine b → Said (ProxyFailure InvalidRequest) r o o′ → Done (proxy (wanted q) g (decodeTable b)) r b o o′
       unfolding proxy
-      absent-pgt z f s =
-          let w = proxy-told q p t x e m in
-          rw (w .fine, none-given (fromQuery "pgt" q) (sym (w .pgt) ∙ z)) (only-said f s)
+      absent z f s = rw (sym asks, lacks, z) (only-said f s)
 
-      pub absent-target : t ≡ 0 → Fine b → Said (ProxyFailure InvalidRequest) r o o′ → Done (proxy q g (decodeTable b)) r b o o′
-      unfolding proxy
-      absent-target z f s =
-          let w = proxy-told q p t x e m in
-          rw (w .fine, none-given (fromQuery "targetService" q) (sym (w .target) ∙ z), or-true (isEmpty (fromQuery "pgt" q))) (only-said f s)
-
-      pub answered : {b′ : List ℕ} → (p ≡ 0 → ⊥) → (t ≡ 0 → ⊥) → Done (proxyFor (fromQuery "pgt" q) (fromQuery "targetService" q) g (decodeTable b)) r b′ o o′ → Done (proxy q g (decodeTable b)) r b′ o o′
+      pub answered : {b′ : List ℕ} → eqb (p .length) 0 || eqb (t .length) 0 ≡ false → Done (proxyFor (valueAt false q p) (valueAt false q t) g (decodeTable b)) r b′ o o′ → Done (proxy (wanted q) g (decodeTable b)) r b′ o o′
       unfolding proxy proxyFor
-      answered y z d =
-          let w = proxy-told q p t x e m in
-          rw (w .fine, some-given (fromQuery "pgt" q) (λ n. y (w .pgt ∙ n)), some-given (fromQuery "targetService" q) (λ n. z (w .target ∙ n))) d
-
--- the buffers
-pub pgt-ready : (q buf : List ℕ) → malformed false proxyNames q ≡ false → length buf ≡ 64 → Ready false (ascii "pgt") q buf
-pgt-ready q buf e h = proxy-pgt q e buf (omega arith)
-
-pub target-ready : (q buf : List ℕ) → malformed false proxyNames q ≡ false → length buf ≡ 200 → Ready false (ascii "targetService") q buf
-target-ready q buf e h = proxy-target q e buf (omega arith)
+      answered z d = rw (sym asks, lacks, z) d
 
 -- what was read stands at the front of its buffer
-module _ (q d e : List ℕ) (n : ℕ) where
-  pub pgt-count : Wrote d 0 e n (decoded false (rawValue (ascii "pgt") q)) → n ≡ length (take n e)
-  pgt-count w = sym (length-take-le n e (omega (arith, w .room, w .same)))
+pub target-most : (q d e : List ℕ) (p t : Value) (n : ℕ) → Values q p t → Wrote d 0 e n (valueAt false q t) → length (take n e) ≤ 200
+target-most q d e p t n h w = rw (read-back d e (valueAt false q t) n w) (omega (arith, h .target .long, h .target .fits))
 
-  pub target-count : Wrote d 0 e n (decoded false (rawValue (ascii "targetService") q)) → n ≡ length (take n e)
-  target-count w = sym (length-take-le n e (omega (arith, w .room, w .same)))
-
-  pub target-most : Wrote d 0 e n (decoded false (rawValue (ascii "targetService") q)) → length (fromQuery "targetService" q) ≤ 200 → length (take n e) ≤ 200
-  target-most w h = rw (read-front "targetService" false q d e n w) h
-
-pub asked : (q b d e d₂ e₂ : List ℕ) (n n₂ : ℕ) (g : Brought) {b′ o o′ : List ℕ} {r : Outcome}
-    → Wrote d 0 e n (decoded false (rawValue (ascii "pgt") q)) → Wrote d₂ 0 e₂ n₂ (decoded false (rawValue (ascii "targetService") q))
-    → Done (proxyFor (take n e) (take n₂ e₂) g (decodeTable b)) r b′ o o′ → Done (proxyFor (fromQuery "pgt" q) (fromQuery "targetService" q) g (decodeTable b)) r b′ o o′
-asked q b d e d₂ e₂ n n₂ g w w₂ x = rw (read-front "pgt" false q d e n w, read-front "targetService" false q d₂ e₂ n₂ w₂) at x
-
-pub target-short : (q : List ℕ) → malformed false proxyNames q ≡ false → length (fromQuery "targetService" q) ≤ 200
-unfolding valueOf
-target-short q e = proxy-target q e (replicate 200 0) (omega arith) .room
+pub asked : (q b d e d₂ e₂ : List ℕ) (p t : Value) (n n₂ : ℕ) (g : Brought) {b′ o o′ : List ℕ} {r : Outcome} → Wrote d 0 e n (valueAt false q p) → Wrote d₂ 0 e₂ n₂ (valueAt false q t)
+    → Done (proxyFor (take n e) (take n₂ e₂) g (decodeTable b)) r b′ o o′ → Done (proxyFor (valueAt false q p) (valueAt false q t) g (decodeTable b)) r b′ o o′
+asked q b d e d₂ e₂ p t n n₂ g w w₂ x = rw (read-back d e (valueAt false q p) n w, read-back d₂ e₂ (valueAt false q t) n₂ w₂) at x

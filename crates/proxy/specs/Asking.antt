@@ -1,10 +1,13 @@
 -- Proxy once its request is read: protocol's step from there on.
+use mathlib.Core.Bool.{false}
 use mathlib.Core.List.{List}
 use Prim.Native.Nat.{ℕ}
 use Rattle.protocol.specs.Tickets.{aGrant}
 use Rattle.protocol.specs.Table.{Table, decodeTable, recAt}
 use Rattle.protocol.specs.Steps.{Brought, Step, slotNamed, proxyBy}
 use Rattle.protocol.specs.Held.{In}
+use Rattle.request.specs.Value.{Readable}
+use Rattle.request.specs.declared.Value.{Value}
 
 -- k is the slot of a grant, and so is its session a slot
 pub record Live (k : ℕ) (table : List ℕ) : Type 0 where
@@ -14,3 +17,8 @@ pub record Live (k : ℕ) (table : List ℕ) : Type 0 where
 -- by the grant's text
 unfoldable pub proxyFor : List ℕ → List ℕ → Brought → Table → Step
 proxyFor pgt target g t = proxyBy (slotNamed aGrant pgt t) target g t
+
+-- what was read of a request that is not malformed can be decoded from its places
+pub record Values (q : List ℕ) (p t : Value) : Type 0 where
+  pub pgt : Readable false 64 q p
+  pub target : Readable false 200 q t

@@ -1,20 +1,19 @@
 // Proxy: a grant asks for a ticket to a registered service.
-use find::Found;
 use protocol::Outcome;
 use request::ProxyQuery;
+use request::Value;
+use table_find::Found;
 use xml::Code;
 ghost use mathlib.Core.Path.{_≡_};
 ghost use mathlib.Core.Bool.{false};
 ghost use Prim.Native.Nat.{_≤_};
 ghost use lib.ListN.{length};
-ghost use Rattle.protocol.specs.Bytes.{ascii};
 ghost use Rattle.protocol.specs.Table.{decodeTable};
-ghost use Rattle.protocol.specs.Request.{malformed, proxyNames, fromQuery};
+ghost use Rattle.protocol.specs.Request.{wanted};
 ghost use Rattle.protocol.specs.Steps.{proxyBy, proxy};
-ghost use Rattle.protocol.specs.Held.{Done, Lent};
-ghost use Rattle.protocol.specs.Calls.{bringing};
-ghost use Rattle.request.specs.Requests.{Ready};
-ghost use Rattle.proxy.specs.Asking.{proxyFor, Live};
+ghost use Rattle.protocol.specs.Held.{Done, Lent, bringing};
+ghost use Rattle.request.specs.Value.{valueAt};
+ghost use Rattle.proxy.specs.Asking.{proxyFor, Live, Values};
 
 // Under the live grant in slot k.
 fn under(
@@ -29,8 +28,8 @@ fn under(
     ensures { λ r. ⌜ Done (proxyBy k (now (target .entry)) (bringing (now (register .entry)) (now (random .entry))) (decodeTable (now (table .entry)))) r (now (table .exit)) (now (out .entry)) (now (out .exit)) ⌝ }
 {
     if register::registered(register, target) {
-        if find::has_room(table, 1) {
-            return offer::proxy_ticket(table, k, target, random, out);
+        if table_find::has_room(table, 1) {
+            return issue::proxy_ticket(table, k, target, random, out);
         }
         return reply::say_proxy_failure(out, Code::InternalError);
     }
@@ -48,7 +47,7 @@ fn by_grant(
     requires { ⌜ (Lent (now table) (now register) (now random) (now out)) × (length (now target) ≤ 200) ⌝ }
     ensures { λ r. ⌜ Done (proxyFor (now (pgt .entry)) (now (target .entry)) (bringing (now (register .entry)) (now (random .entry))) (decodeTable (now (table .entry)))) r (now (table .exit)) (now (out .entry)) (now (out .exit)) ⌝ }
 {
-    match find::find_named(table, ticket::Grant::KIND, pgt) {
+    match table_find::find_named(table, ticket::Grant::KIND, pgt) {
         Found::At(k) => under(table, k, register, target, random, out),
         Found::Nothing => reply::say_proxy_failure(out, Code::BadPgt),
     }
@@ -59,42 +58,66 @@ fn ask(
     table: &mut [u8],
     register: &[u8],
     q: &[u8],
+    pgt: Value,
+    target: Value,
     random: &[u8],
-    pgt: &mut [u8],
-    target: &mut [u8],
+    for_pgt: &mut [u8],
+    for_target: &mut [u8],
     out: &mut [u8],
 ) -> Outcome
-    requires { ⌜ (Lent (now table) (now register) (now random) (now out)) × (Ready false (ascii "pgt") (now q) (now pgt)) × (Ready false (ascii "targetService") (now q) (now target)) × (length (fromQuery "targetService" (now q)) ≤ 200) ⌝ }
-    ensures { λ r. ⌜ Done (proxyFor (fromQuery "pgt" (now (q .entry))) (fromQuery "targetService" (now (q .entry))) (bringing (now (register .entry)) (now (random .entry))) (decodeTable (now (table .entry)))) r (now (table .exit)) (now (out .entry)) (now (out .exit)) ⌝ }
+    requires { ⌜ (Lent (now table) (now register) (now random) (now out)) × (Values (now q) pgt target) × (64 ≤ length (now «for_pgt»)) × (200 ≤ length (now «for_target»)) ⌝ }
+    ensures { λ r. ⌜ Done (proxyFor (valueAt false (now (q .entry)) pgt) (valueAt false (now (q .entry)) target) (bringing (now (register .entry)) (now (random .entry))) (decodeTable (now (table .entry)))) r (now (table .exit)) (now (out .entry)) (now (out .exit)) ⌝ }
 {
-    let p = request::read_query(q, b"pgt", pgt);
-    let t = request::read_query(q, b"targetService", target);
-    by_grant(table, register, &pgt[..p], &target[..t], random, out)
+    let p = request::read(q, pgt, false, for_pgt);
+    let t = request::read(q, target, false, for_target);
+    by_grant(
+        table,
+        register,
+        &for_pgt[..p],
+        &for_target[..t],
+        random,
+        out,
+    )
 }
 
-fn ask_in(table: &mut [u8], register: &[u8], q: &[u8], random: &[u8], out: &mut [u8]) -> Outcome
-    requires { ⌜ (Lent (now table) (now register) (now random) (now out)) × (malformed false proxyNames (now q) ≡ false) ⌝ }
-    ensures { λ r. ⌜ Done (proxyFor (fromQuery "pgt" (now (q .entry))) (fromQuery "targetService" (now (q .entry))) (bringing (now (register .entry)) (now (random .entry))) (decodeTable (now (table .entry)))) r (now (table .exit)) (now (out .entry)) (now (out .exit)) ⌝ }
+fn ask_in(
+    table: &mut [u8],
+    register: &[u8],
+    q: &[u8],
+    pgt: Value,
+    target: Value,
+    random: &[u8],
+    out: &mut [u8],
+) -> Outcome
+    requires { ⌜ (Lent (now table) (now register) (now random) (now out)) × (Values (now q) pgt target) ⌝ }
+    ensures { λ r. ⌜ Done (proxyFor (valueAt false (now (q .entry)) pgt) (valueAt false (now (q .entry)) target) (bringing (now (register .entry)) (now (random .entry))) (decodeTable (now (table .entry)))) r (now (table .exit)) (now (out .entry)) (now (out .exit)) ⌝ }
 {
-    let mut pgt = [0u8; 64];
-    let mut target = [0u8; 200];
-    ask(table, register, q, random, &mut pgt, &mut target, out)
+    let mut for_pgt = [0u8; 64];
+    let mut for_target = [0u8; 200];
+    ask(
+        table,
+        register,
+        q,
+        pgt,
+        target,
+        random,
+        &mut for_pgt,
+        &mut for_target,
+        out,
+    )
 }
 
 pub fn proxy(table: &mut [u8], register: &[u8], q: &[u8], random: &[u8], out: &mut [u8]) -> Outcome
     requires { ⌜ Lent (now table) (now register) (now random) (now out) ⌝ }
-    ensures { λ r. ⌜ Done (proxy (now (q .entry)) (bringing (now (register .entry)) (now (random .entry))) (decodeTable (now (table .entry)))) r (now (table .exit)) (now (out .entry)) (now (out .exit)) ⌝ }
+    ensures { λ r. ⌜ Done (proxy (wanted (now (q .entry))) (bringing (now (register .entry)) (now (random .entry))) (decodeTable (now (table .entry)))) r (now (table .exit)) (now (out .entry)) (now (out .exit)) ⌝ }
 {
     match request::proxy_query(q) {
         ProxyQuery::Malformed => reply::say_proxy_failure(out, Code::InvalidRequest),
         ProxyQuery::Given { pgt, target } => {
-            if pgt == 0 {
+            if (pgt.length == 0) | (target.length == 0) {
                 return reply::say_proxy_failure(out, Code::InvalidRequest);
             }
-            if target == 0 {
-                return reply::say_proxy_failure(out, Code::InvalidRequest);
-            }
-            ask_in(table, register, q, random, out)
+            ask_in(table, register, q, pgt, target, random, out)
         }
     }
 }

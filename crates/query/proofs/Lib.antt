@@ -1,2 +1,3 @@
--- The laws of looking names up.
+-- The laws of the pieces, and of the names noted in a walk over them.
+pub mod Pieces
 pub mod Laws

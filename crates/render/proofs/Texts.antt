@@ -8,7 +8,7 @@ use lib.ListN.{length}
 use Rattle.protocol.specs.Bytes.{if, ascii, holds, digits}
 use Rattle.protocol.specs.Answers.{ErrorPage, SignedIn, SignedOut, FormPage, RedirectTo, YesNo, CallbackTo, pageHead, formText, extended, callbackText, replyText}
 use Rattle.protocol.specs.Written.{Room, Wrote}
-use Rattle.protocol.proofs.Sizes.{error, out-page, form, away, call}
+use Rattle.protocol.proofs.Sizes.{error, out-page, form, redirect, call}
 use Rattle.text.proofs.Splice.{wrote-as, room-as, room-first, room-next, then}
 use Rattle.template.proofs.Filling.{fits}
 use Rattle.template.specs.Template.{slot, fillIn}
@@ -134,24 +134,24 @@ alone-text service (b ∷ t) z = absurd (omega arith)
 pub alone-wrote : (d e service ticket : List ℕ) (to : ℕ) → length ticket ≡ 0 → Wrote d 0 e to service → Wrote d 0 e to (replyText (RedirectTo service ticket))
 alone-wrote d e service ticket to z w = wrote-as (alone-text service ticket z) w
 
-away-text : (service ticket : List ℕ) → (length ticket ≡ 0 → ⊥) → extended service [] ++ fillIn (ascii "ticket={") 0 ticket [] [] ≡ replyText (RedirectTo service ticket)
+redirect-text : (service ticket : List ℕ) → (length ticket ≡ 0 → ⊥) → extended service [] ++ fillIn (ascii "ticket={") 0 ticket [] [] ≡ replyText (RedirectTo service ticket)
 unfolding replyText fillIn slot
-away-text service [] z = absurd (z refl)
-away-text service (b ∷ t) z = rw (append-nil t) (extended-more service (ascii "ticket=" ++ (b ∷ t)))
+redirect-text service [] z = absurd (z refl)
+redirect-text service (b ∷ t) z = rw (append-nil t) (extended-more service (ascii "ticket=" ++ (b ∷ t)))
 
 module _ (d service ticket : List ℕ) (z : length ticket ≡ 0 → ⊥) where
   module _ (h : 8192 ≤ length d) (k : length service ≤ 200) (l : length ticket ≤ 64) where
-    away-room : Room d 0 (extended service [] ++ fillIn (ascii "ticket={") 0 ticket [] [])
-    away-room = room-as (sym (away-text service ticket z)) (fits d h (away service ticket k l))
+    redirect-room : Room d 0 (extended service [] ++ fillIn (ascii "ticket={") 0 ticket [] [])
+    redirect-room = room-as (sym (redirect-text service ticket z)) (fits d h (redirect service ticket k l))
 
     pub service-room : Room d 0 (extended service [])
-    service-room = room-first d 0 (extended service []) (fillIn (ascii "ticket={") 0 ticket [] []) away-room
+    service-room = room-first d 0 (extended service []) (fillIn (ascii "ticket={") 0 ticket [] []) redirect-room
 
     pub ticket-room : (e : List ℕ) (at : ℕ) → Wrote d 0 e at (extended service []) → Room e at (fillIn (ascii "ticket={") 0 ticket [] [])
-    ticket-room e at w = room-next d e 0 at (extended service []) (fillIn (ascii "ticket={") 0 ticket [] []) away-room w
+    ticket-room e at w = room-next d e 0 at (extended service []) (fillIn (ascii "ticket={") 0 ticket [] []) redirect-room w
 
-  pub away-wrote : (e f : List ℕ) (at to : ℕ) → Wrote d 0 e at (extended service []) → Wrote e at f to (fillIn (ascii "ticket={") 0 ticket [] []) → Wrote d 0 f to (replyText (RedirectTo service ticket))
-  away-wrote e f at to v w = wrote-as (away-text service ticket z) (then v w)
+  pub redirect-wrote : (e f : List ℕ) (at to : ℕ) → Wrote d 0 e at (extended service []) → Wrote e at f to (fillIn (ascii "ticket={") 0 ticket [] []) → Wrote d 0 f to (replyText (RedirectTo service ticket))
+  redirect-wrote e f at to v w = wrote-as (redirect-text service ticket z) (then v w)
 
 -- a callback
 grant-text : (url pgt iou : List ℕ) → extended url [] ++ fillIn (ascii "pgtId={&pgtIou=|") 0 pgt iou [] ≡ callbackText url pgt iou
@@ -172,11 +172,6 @@ module _ (d url pgt iou : List ℕ) where
 
   pub callback-wrote : (e f : List ℕ) (at to : ℕ) → Wrote d 0 e at (extended url []) → Wrote e at f to (fillIn (ascii "pgtId={&pgtIou=|") 0 pgt iou []) → Wrote d 0 f to (callbackText url pgt iou)
   callback-wrote e f at to v w = wrote-as (grant-text url pgt iou) (then v w)
-
--- it is the answer, whatever the serial that the result tells
-pub callback-reply : (url pgt iou : List ℕ) (serial : ℕ) → callbackText url pgt iou ≡ replyText (CallbackTo url pgt iou serial)
-unfolding replyText
-callback-reply url pgt iou serial = refl
 
 -- `yes` or `no`
 pub yes-wrote : (d e : List ℕ) (to : ℕ) (b : Bool) → b ≡ true → Wrote d 0 e to (ascii "yes\n") → Wrote d 0 e to (replyText (YesNo b))

@@ -9,7 +9,7 @@ ghost use Prim.Native.Nat.{_≤_};
 ghost use lib.ListN.{length};
 ghost use Rattle.protocol.specs.Bytes.{if};
 ghost use Rattle.protocol.specs.Answers.{numberOf, dataOf, statusOf, serialOf, ErrorPage, SignedIn, SignedOut, FormPage, RedirectTo, YesNo, Failure, ProxySuccess, ProxyFailure, CallbackTo};
-ghost use Rattle.protocol.specs.Held.{Said};
+ghost use Rattle.protocol.specs.Held.{Said, cookied, clearedIf};
 ghost use Rattle.xml.specs.Codes.{codeOf};
 ghost use Rattle.reply.specs.Told.{toldOf};
 
@@ -85,6 +85,38 @@ pub fn told(a: Answer, n: usize) -> Outcome
         cookie_length: 0,
         cookie_cleared: false,
         callback_serial: serial_of(a),
+    }
+}
+
+// The same result with the length of the cookie that was written.
+pub fn with_cookie(r: Outcome, n: usize) -> Outcome
+    ensures { λ x. ⌜ x ≡ cookied n r ⌝ }
+{
+    let answer = r.answer;
+    Outcome {
+        refusal: r.refusal,
+        answer,
+        status: r.status,
+        length: r.length,
+        cookie_length: n,
+        cookie_cleared: r.cookie_cleared,
+        callback_serial: r.callback_serial,
+    }
+}
+
+// The same result with the cookie cleared, or not.
+pub fn with_cleared(r: Outcome, ended: bool) -> Outcome
+    ensures { λ x. ⌜ x ≡ clearedIf ended r ⌝ }
+{
+    let answer = r.answer;
+    Outcome {
+        refusal: r.refusal,
+        answer,
+        status: r.status,
+        length: r.length,
+        cookie_length: r.cookie_length,
+        cookie_cleared: ended,
+        callback_serial: r.callback_serial,
     }
 }
 

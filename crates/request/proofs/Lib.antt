@@ -1,3 +1,2 @@
--- The laws of judged requests, and what they give to callers.
+-- The laws of judged names, and of what the answers spell.
 pub mod Laws
-pub mod Values

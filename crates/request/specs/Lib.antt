@@ -1,3 +1,3 @@
--- What the judges of requests answer, and what their callers know by it.
-pub mod Requests
-pub mod Given
+-- What a judged name answers, and what the answer for each path spells.
+pub mod Value
+pub mod Spelled

@@ -1,26 +1,42 @@
-// The names that each path uses, judged all together before anything is decoded into a buffer; then a value read by its name.
+// A request read once: one walk over its query or body finds the names that its path uses, each value is judged once, and the
+// answer is malformed, or where the values lie in the caller's own bytes and what is set. Nothing is written until a value is
+// decoded from its place into a lent buffer.
 use decode::Judged;
 use protocol::Validator;
+use query::Place;
 ghost use mathlib.Core.Path.{_≡_};
 ghost use mathlib.Core.Bool.{true, false};
-ghost use Rattle.protocol.specs.Request.{valueMost, rawValue, decoded};
 ghost use Rattle.protocol.specs.Written.{Wrote};
-ghost use Rattle.request.specs.Requests.{
-  judgedName,
-  judgedCallback,
-  Ready,
-  loginQueryOf,
-  loginBodyOf,
-  logoutQueryOf,
-  validatorQueryOf,
-  proxyQueryOf,
-};
+ghost use lib.ListN.{length};
+ghost use Rattle.query.specs.Place.{Inside};
+ghost use Rattle.request.specs.Value.{valueAt, Readable, textRight, passwordRight, usernameRight, judgedAs, placedBy, judgedAt, judgedCallback};
+ghost use Rattle.request.specs.Spelled.{AskedIn, PostedIn, LeavingIn, ShownIn, WantedIn};
 
-// What the names of a path hold: the decoded length of each value, 0 where it is absent, and what is set by being present.
+// The longest decoded values: of username, lt, ticket and pgt; of password; of the others.
+pub const SHORT: usize = 64;
+
+pub const PASSWORD: usize = 128;
+
+pub const LONG: usize = 200;
+
+// A raw value's place, and its length when decoded, 0 where it is absent.
+pub struct Value {
+    pub from: usize,
+    pub to: usize,
+    pub length: usize,
+}
+
+// A used name judged: bad, or its value.
+pub struct Judgement {
+    pub bad: bool,
+    pub value: Value,
+}
+
+// What the names of a path ask: values, and what is set by being present.
 pub enum LoginQuery {
     Malformed,
     Given {
-        service: usize,
+        service: Value,
         renew: bool,
         gateway: bool,
     },
@@ -29,116 +45,129 @@ pub enum LoginQuery {
 pub enum LoginBody {
     Malformed,
     Given {
-        service: usize,
-        username: usize,
-        password: usize,
-        lt: usize,
+        service: Value,
+        username: Value,
+        password: Value,
+        lt: Value,
     },
 }
 
 pub enum LogoutQuery {
     Malformed,
-    Given { url: usize },
+    Given { url: Value },
 }
 
 pub enum ValidatorQuery {
     Malformed,
     Given {
-        service: usize,
-        ticket: usize,
+        service: Value,
+        ticket: Value,
         renew: bool,
-        pgt_url: usize,
+        pgt_url: Value,
     },
 }
 
 pub enum ProxyQuery {
     Malformed,
-    Given { pgt: usize, target: usize },
+    Given { pgt: Value, target: Value },
 }
 
-// The longest value of a name.
-pub fn most_of(name: &[u8]) -> usize
-    ensures { λ r. ⌜ r ≡ valueMost (now (name .entry)) ⌝ }
+fn judged_as(bad: bool, from: usize, to: usize, length: usize) -> Judgement
+    ensures { λ r. ⌜ r ≡ judgedAs bad from to length ⌝ }
 {
-    if text::same(name, b"username") {
-        return 64;
-    }
-    if text::same(name, b"lt") {
-        return 64;
-    }
-    if text::same(name, b"ticket") {
-        return 64;
-    }
-    if text::same(name, b"pgt") {
-        return 64;
-    }
-    if text::same(name, b"password") {
-        return 128;
-    }
-    200
+    let value = Value { from, to, length };
+    Judgement { bad, value }
 }
 
-// One name judged: it stands at most once, and its value may stand.
-pub fn judge_name(q: &[u8], name: &[u8], in_body: bool) -> Judged
-    ensures { λ r. ⌜ r ≡ judgedName in_body (now (q .entry)) (now (name .entry)) ⌝ }
+// A judged value with its place. A name that stands twice is bad.
+fn placed(place: Place, value: Judged) -> Judgement
+    ensures { λ r. ⌜ r ≡ placedBy place value ⌝ }
 {
-    if 1 < query::occurrences(q, name) {
-        return Judged::Bad;
+    let Judged::Good(length) = value else {
+        return judged_as(true, 0, 0, 0);
+    };
+    if 1 < place.count {
+        return judged_as(true, 0, 0, 0);
     }
-    let raw = query::lookup(q, name);
-    let most = most_of(name);
-    if text::same(name, b"password") {
-        return decode::judge(raw, in_body, 0, 255, most);
+    judged_as(false, place.from, place.to, length)
+}
+
+fn judge_text(q: &[u8], place: Place, in_body: bool, most: usize) -> Judgement
+    requires { ⌜ Inside (now q) (place .from) (place .to) ⌝ }
+    ensures { λ r. ⌜ r ≡ judgedAt in_body (textRight most) (now (q .entry)) place ⌝ }
+{
+    let raw = query::raw_at(q, place.from, place.to);
+    placed(place, decode::judge(raw, in_body, 32, 126, most))
+}
+
+fn judge_password(body: &[u8], place: Place) -> Judgement
+    requires { ⌜ Inside (now body) (place .from) (place .to) ⌝ }
+    ensures { λ r. ⌜ r ≡ judgedAt true passwordRight (now (body .entry)) place ⌝ }
+{
+    let raw = query::raw_at(body, place.from, place.to);
+    placed(place, decode::judge(raw, true, 0, 255, PASSWORD))
+}
+
+fn judge_username(body: &[u8], place: Place) -> Judgement
+    requires { ⌜ Inside (now body) (place .from) (place .to) ⌝ }
+    ensures { λ r. ⌜ r ≡ judgedAt true usernameRight (now (body .entry)) place ⌝ }
+{
+    let raw = query::raw_at(body, place.from, place.to);
+    placed(place, decode::judge_name(raw, true, SHORT))
+}
+
+// The callback's name, which /cas/validate does not use.
+fn judge_callback(validator: Validator, q: &[u8], place: Place) -> Judgement
+    requires { ⌜ Inside (now q) (place .from) (place .to) ⌝ }
+    ensures { λ r. ⌜ r ≡ judgedCallback validator (now (q .entry)) place ⌝ }
+{
+    match validator {
+        Validator::Plain => judged_as(false, 0, 0, 0),
+        Validator::Service => judge_text(q, place, false, LONG),
+        Validator::Proxy => judge_text(q, place, false, LONG),
     }
-    if text::same(name, b"username") {
-        return decode::judge_name(raw, in_body, most);
-    }
-    decode::judge(raw, in_body, 32, 126, most)
 }
 
 pub fn login_query(q: &[u8]) -> LoginQuery
-    ensures { λ r. ⌜ r ≡ loginQueryOf (now (q .entry)) ⌝ }
+    ensures { λ r. ⌜ AskedIn (now (q .entry)) r ⌝ }
 {
-    let s = judge_name(q, b"service", false);
-    let Judged::Good(service) = s else {
+    let found = query::walk(q, b"service", b"renew", b"gateway", b"");
+    let at_service = found.a;
+    let at_renew = found.b;
+    let at_gateway = found.c;
+    let s = judge_text(q, at_service, false, LONG);
+    let r = judge_text(q, at_renew, false, LONG);
+    let g = judge_text(q, at_gateway, false, LONG);
+    if s.bad | r.bad | g.bad {
         return LoginQuery::Malformed;
-    };
-    let r = judge_name(q, b"renew", false);
-    let Judged::Good(_) = r else {
-        return LoginQuery::Malformed;
-    };
-    let g = judge_name(q, b"gateway", false);
-    let Judged::Good(_) = g else {
-        return LoginQuery::Malformed;
-    };
-    let renew = query::is_present(q, b"renew");
-    let gateway = query::is_present(q, b"gateway");
+    }
+    let service = s.value;
     LoginQuery::Given {
         service,
-        renew,
-        gateway,
+        renew: 0 < at_renew.count,
+        gateway: 0 < at_gateway.count,
     }
 }
 
 pub fn login_body(body: &[u8]) -> LoginBody
-    ensures { λ r. ⌜ r ≡ loginBodyOf (now (body .entry)) ⌝ }
+    ensures { λ r. ⌜ PostedIn (now (body .entry)) r ⌝ }
 {
-    let s = judge_name(body, b"service", true);
-    let Judged::Good(service) = s else {
+    let found = query::walk(body, b"service", b"username", b"password", b"lt");
+    let at_service = found.a;
+    let at_username = found.b;
+    let at_password = found.c;
+    let at_lt = found.d;
+    let s = judge_text(body, at_service, true, LONG);
+    let u = judge_username(body, at_username);
+    let p = judge_password(body, at_password);
+    let l = judge_text(body, at_lt, true, SHORT);
+    if s.bad | u.bad | p.bad | l.bad {
         return LoginBody::Malformed;
-    };
-    let u = judge_name(body, b"username", true);
-    let Judged::Good(username) = u else {
-        return LoginBody::Malformed;
-    };
-    let p = judge_name(body, b"password", true);
-    let Judged::Good(password) = p else {
-        return LoginBody::Malformed;
-    };
-    let l = judge_name(body, b"lt", true);
-    let Judged::Good(lt) = l else {
-        return LoginBody::Malformed;
-    };
+    }
+    let service = s.value;
+    let username = u.value;
+    let password = p.value;
+    let lt = l.value;
     LoginBody::Given {
         service,
         username,
@@ -148,82 +177,65 @@ pub fn login_body(body: &[u8]) -> LoginBody
 }
 
 pub fn logout_query(q: &[u8]) -> LogoutQuery
-    ensures { λ r. ⌜ r ≡ logoutQueryOf (now (q .entry)) ⌝ }
+    ensures { λ r. ⌜ LeavingIn (now (q .entry)) r ⌝ }
 {
-    let u = judge_name(q, b"url", false);
-    match u {
-        Judged::Bad => LogoutQuery::Malformed,
-        Judged::Good(url) => LogoutQuery::Given { url },
+    let found = query::walk(q, b"url", b"", b"", b"");
+    let at_url = found.a;
+    let u = judge_text(q, at_url, false, LONG);
+    if u.bad {
+        return LogoutQuery::Malformed;
     }
-}
-
-// The callback's name, which /cas/validate does not use.
-pub fn judge_callback(validator: Validator, q: &[u8]) -> Judged
-    ensures { λ r. ⌜ r ≡ judgedCallback validator (now (q .entry)) ⌝ }
-{
-    match validator {
-        Validator::Plain => Judged::Good(0),
-        Validator::Service => judge_name(q, b"pgtUrl", false),
-        Validator::Proxy => judge_name(q, b"pgtUrl", false),
-    }
+    let url = u.value;
+    LogoutQuery::Given { url }
 }
 
 pub fn validator_query(validator: Validator, q: &[u8]) -> ValidatorQuery
-    ensures { λ r. ⌜ r ≡ validatorQueryOf validator (now (q .entry)) ⌝ }
+    ensures { λ r. ⌜ ShownIn validator (now (q .entry)) r ⌝ }
 {
-    let s = judge_name(q, b"service", false);
-    let Judged::Good(service) = s else {
+    let found = query::walk(q, b"service", b"ticket", b"renew", b"pgtUrl");
+    let at_service = found.a;
+    let at_ticket = found.b;
+    let at_renew = found.c;
+    let at_callback = found.d;
+    let s = judge_text(q, at_service, false, LONG);
+    let t = judge_text(q, at_ticket, false, SHORT);
+    let r = judge_text(q, at_renew, false, LONG);
+    let c = judge_callback(validator, q, at_callback);
+    if s.bad | t.bad | r.bad | c.bad {
         return ValidatorQuery::Malformed;
-    };
-    let t = judge_name(q, b"ticket", false);
-    let Judged::Good(ticket) = t else {
-        return ValidatorQuery::Malformed;
-    };
-    let r = judge_name(q, b"renew", false);
-    let Judged::Good(_) = r else {
-        return ValidatorQuery::Malformed;
-    };
-    let c = judge_callback(validator, q);
-    let Judged::Good(pgt_url) = c else {
-        return ValidatorQuery::Malformed;
-    };
-    let renew = query::is_present(q, b"renew");
+    }
+    let service = s.value;
+    let ticket = t.value;
+    let pgt_url = c.value;
     ValidatorQuery::Given {
         service,
         ticket,
-        renew,
+        renew: 0 < at_renew.count,
         pgt_url,
     }
 }
 
 pub fn proxy_query(q: &[u8]) -> ProxyQuery
-    ensures { λ r. ⌜ r ≡ proxyQueryOf (now (q .entry)) ⌝ }
+    ensures { λ r. ⌜ WantedIn (now (q .entry)) r ⌝ }
 {
-    let p = judge_name(q, b"pgt", false);
-    let Judged::Good(pgt) = p else {
+    let found = query::walk(q, b"pgt", b"targetService", b"", b"");
+    let at_pgt = found.a;
+    let at_target = found.b;
+    let p = judge_text(q, at_pgt, false, SHORT);
+    let t = judge_text(q, at_target, false, LONG);
+    if p.bad | t.bad {
         return ProxyQuery::Malformed;
-    };
-    let t = judge_name(q, b"targetService", false);
-    let Judged::Good(target) = t else {
-        return ProxyQuery::Malformed;
-    };
+    }
+    let pgt = p.value;
+    let target = t.value;
     ProxyQuery::Given { pgt, target }
 }
 
-// A value of a query, decoded at the front of a lent buffer, once the path's names are judged.
-pub fn read_query(q: &[u8], name: &[u8], out: &mut [u8]) -> usize
-    requires { ⌜ Ready false (now name) (now q) (now out) ⌝ }
-    ensures { λ r. ⌜ Wrote (now (out .entry)) 0 (now (out .exit)) r (decoded false (rawValue (now (name .entry)) (now (q .entry)))) ⌝ }
+// A value decoded from its place to the front of a lent buffer.
+pub fn read(q: &[u8], value: Value, in_body: bool, out: &mut [u8]) -> usize
+    requires { ⌜ Readable in_body (length (now out)) (now q) value ⌝ }
+    ensures { λ r. ⌜ Wrote (now (out .entry)) 0 (now (out .exit)) r (valueAt in_body (now (q .entry)) value) ⌝ }
 {
-    let raw = query::lookup(q, name);
-    decode::decode_value(raw, false, out)
-}
-
-// The same of a body.
-pub fn read_body(body: &[u8], name: &[u8], out: &mut [u8]) -> usize
-    requires { ⌜ Ready true (now name) (now body) (now out) ⌝ }
-    ensures { λ r. ⌜ Wrote (now (out .entry)) 0 (now (out .exit)) r (decoded true (rawValue (now (name .entry)) (now (body .entry)))) ⌝ }
-{
-    let raw = query::lookup(body, name);
-    decode::decode_value(raw, true, out)
+    let raw = query::raw_at(q, value.from, value.to);
+    decode::decode_value(raw, in_body, out)
 }

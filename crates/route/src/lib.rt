@@ -6,8 +6,8 @@ ghost use mathlib.Core.Bool.{false};
 ghost use Prim.Native.Nat.{_≤_};
 ghost use lib.ListN.{length};
 ghost use Rattle.protocol.specs.Table.{decodeTable};
-ghost use Rattle.protocol.specs.Request.{pathNamed, pathPart, queryPart};
-ghost use Rattle.protocol.specs.Steps.{getStep, postStep, requestStep};
+ghost use Rattle.protocol.specs.Request.{getRequest, postRequest, requestOf};
+ghost use Rattle.protocol.specs.Steps.{requestStep};
 ghost use Rattle.protocol.specs.Held.{Done, Did, Lent};
 ghost use Rattle.protocol.specs.Calls.{broughtBy};
 
@@ -27,10 +27,10 @@ fn by_get(
     out: &mut [u8],
 ) -> Outcome
     requires { ⌜ Lent (now table) (now register) (now random) (now out) ⌝ }
-    ensures { λ r. ⌜ Done (getStep path (now (q .entry)) (broughtBy (now (register .entry)) (now (cookie .entry)) (now (random .entry)) false) (decodeTable (now (table .entry)))) r (now (table .exit)) (now (out .entry)) (now (out .exit)) ⌝ }
+    ensures { λ r. ⌜ Done (requestStep (getRequest path (now (q .entry))) (broughtBy (now (register .entry)) (now (cookie .entry)) (now (random .entry)) false) (decodeTable (now (table .entry)))) r (now (table .exit)) (now (out .entry)) (now (out .exit)) ⌝ }
 {
     match path {
-        Path::Login => login::get(table, register, q, cookie, random, out),
+        Path::Login => login_get::get(table, register, q, cookie, random, out),
         Path::Logout => logout::logout(table, register, q, cookie, out),
         Path::Validate(validator) => validate::validate(table, register, validator, q, random, out),
         Path::Proxy => proxy::proxy(table, register, q, random, out),
@@ -51,10 +51,10 @@ fn by_post(
     cookie_out: &mut [u8],
 ) -> Outcome
     requires { ⌜ (Lent (now table) (now register) (now random) (now out)) × (64 ≤ length (now «cookie_out»)) ⌝ }
-    ensures { λ r. ⌜ Did (postStep path (now (body .entry)) (broughtBy (now (register .entry)) (now (cookie .entry)) (now (random .entry)) verdict) (decodeTable (now (table .entry)))) r (now (table .exit)) (now (out .entry)) (now (out .exit)) (now («cookie_out» .entry)) (now («cookie_out» .exit)) ⌝ }
+    ensures { λ r. ⌜ Did (requestStep (postRequest path (now (body .entry))) (broughtBy (now (register .entry)) (now (cookie .entry)) (now (random .entry)) verdict) (decodeTable (now (table .entry)))) r (now (table .exit)) (now (out .entry)) (now (out .exit)) (now («cookie_out» .entry)) (now («cookie_out» .exit)) ⌝ }
 {
     match path {
-        Path::Login => signin::post(
+        Path::Login => login_post::post(
             table,
             register,
             body,
@@ -84,7 +84,7 @@ pub fn request(
     cookie_out: &mut [u8],
 ) -> Outcome
     requires { ⌜ (Lent (now table) (now register) (now random) (now out)) × (64 ≤ length (now «cookie_out»)) ⌝ }
-    ensures { λ r. ⌜ Did (requestStep method (pathNamed (pathPart (now (target .entry)))) (queryPart (now (target .entry))) (now (body .entry)) (broughtBy (now (register .entry)) (now (cookie .entry)) (now (random .entry)) verdict) (decodeTable (now (table .entry)))) r (now (table .exit)) (now (out .entry)) (now (out .exit)) (now («cookie_out» .entry)) (now («cookie_out» .exit)) ⌝ }
+    ensures { λ r. ⌜ Did (requestStep (requestOf method (now (target .entry)) (now (body .entry))) (broughtBy (now (register .entry)) (now (cookie .entry)) (now (random .entry)) verdict) (decodeTable (now (table .entry)))) r (now (table .exit)) (now (out .entry)) (now (out .exit)) (now («cookie_out» .entry)) (now («cookie_out» .exit)) ⌝ }
 {
     let path = query::path_of(target);
     match method {

@@ -8,7 +8,7 @@ use borrow.Author.Tests.{eq-eqb, ne-eqb, eqb-true, leb-true}
 use lib.Dec.{eqb, leb}
 use lib.ListN.{length}
 use Rattle.protocol.specs.Table.{encodeTable, decodeTable, tableShape, tableLawful, lastTime, formatted}
-use Rattle.protocol.specs.Request.{pathNamed, pathPart, queryPart}
+use Rattle.protocol.specs.Request.{requestOf}
 use Rattle.protocol.specs.Steps.{tick, requestStep, finish}
 use Rattle.protocol.specs.Calls.{inputs, result, refusedOutcome, answerRefusal, stepOf, answerOf, numbered, formatRefusal, formatOf, finishRefusal, finishOf, broughtBy}
 use Rattle.protocol.specs.Visits.{visitUnless}
@@ -22,8 +22,8 @@ use Rattle.protocol.proofs.Held.{sound-held, holds-bytes}
 use Rattle.protocol.proofs.Told.{done-did, did-delivered}
 use Rattle.protocol.proofs.Lasting.{passes, Passed}
 use Rattle.protocol.proofs.Top.{top-passed}
-use Rattle.judge.proofs.Worth.{shaped, lawful-law}
-use Rattle.edit.specs.Edits.{Shape}
+use Rattle.table_judge.proofs.Worth.{shaped, lawful-law}
+use Rattle.table_edit.specs.Edits.{Shape}
 
 -- the clock keeps a lawful table lawful
 pub clock-lawful : (b : List ℕ) {b′ : List ℕ} (n : ℕ) → Lawful b → n ≤ lastTime → Holds b′ (tick n (decodeTable b)) → Lawful b′
@@ -100,7 +100,7 @@ module _ (t g u b : List ℕ) (n : ℕ) (d o c : List ℕ) {x : ℕ} (e : x ≡ 
   answer-lent k = record { lawful = clock-lawful t n answer-lawful answer-time k; panels = told .register; drawn = told .random; room = told .out }
 
   pub answer-done : (m : Method) (k : List ℕ) (v : Bool) {b′ t′ o′ c′ : List ℕ} {y : Outcome} → Holds b′ (tick n (decodeTable t))
-      → Did (requestStep m (pathNamed (pathPart u)) (queryPart u) b (broughtBy g k d v) (decodeTable b′)) y t′ o o′ c c′
+      → Did (requestStep (requestOf m u b) (broughtBy g k d v) (decodeTable b′)) y t′ o o′ c c′
       → result y t′ o′ c′ ≡ answerOf (inputs t g m u b k n d v o c)
   unfolding answerOf stepOf
   answer-done m k v h w = did-delivered w ∙ rw (h .is, ← e, eq-eqb x 0 z)

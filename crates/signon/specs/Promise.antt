@@ -7,12 +7,12 @@ use Prim.Native.Nat.{ℕ, _-_, _/_}
 use lib.ListN.{length}
 use Rattle.protocol.specs.Register.{encodeEntry, registerShape, registerLawful}
 use Rattle.protocol.specs.Table.{tableShape, tableLawful, encodeTable, decodeTable, formatted}
-use Rattle.protocol.specs.Request.{fromBody}
+use Rattle.protocol.specs.Request.{posted}
 use Rattle.protocol.specs.Steps.{tick, finish}
 use Rattle.protocol.specs.Visits.{visitRefusal, visitSaid, VisitRead, visitGiven, visitRefused}
 use Rattle.protocol.specs.Panels.{entry, panelRefusal, Made, made, faultFrom, fault}
 use Rattle.protocol.specs.declared.Fault.{Fault}
-use Rattle.protocol.specs.Calls.{Inputs, Result, refusal, stepOf, delivered, unchanged, finishRefusal, Numbered, numbered, formatRefusal, FormRead, formRefusal, formGiven, formRefused}
+use Rattle.protocol.specs.Calls.{Inputs, Result, refusal, stepOf, delivered, unchanged, finishRefusal, Numbered, numbered, formatRefusal, FormRead, formRefusal, formRefused, formBy}
 
 -- format: its number, or a fresh table
 pub record Formats (table : List ℕ) (time : ℕ) (o : Numbered) : Type 0 where
@@ -28,7 +28,7 @@ pub record Checks (table : List ℕ) (o : ℕ) : Type 0 where
 -- the form reader: its number, or both values
 pub record Reads (body username password : List ℕ) (o : FormRead) : Type 0 where
   pub refused : (formRefusal body (length username) (length password) ≡ 0 → ⊥) → o ≡ formRefused (formRefusal body (length username) (length password)) username password
-  pub answered : formRefusal body (length username) (length password) ≡ 0 → o ≡ formGiven (fromBody "username" body) (fromBody "password" body) username password
+  pub answered : formRefusal body (length username) (length password) ≡ 0 → o ≡ formBy (posted body) username password
 
 -- answer: its number, or the request's step on the table after the clock
 pub record Answers (i : Inputs) (o : Result) : Type 0 where

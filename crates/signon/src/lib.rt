@@ -32,11 +32,11 @@ fn refused(number: u32) -> Outcome
 pub fn format(table: &mut [u8], time: u64) -> u32
     ensures { λ r. ⌜ numbered r (now (table .exit)) ≡ formatOf (now (table .entry)) time ⌝ }
 {
-    let number = refuse::of_format(table.len(), time);
+    let number = refusal::of_format(table.len(), time);
     if number != 0 {
         return number;
     }
-    edit::format(table, time);
+    table_edit::format(table, time);
     0
 }
 
@@ -44,7 +44,7 @@ pub fn format(table: &mut [u8], time: u64) -> u32
 pub fn check(table: &[u8]) -> u32
     ensures { λ r. ⌜ r ≡ checkOf (now (table .entry)) ⌝ }
 {
-    refuse::of_check(table)
+    refusal::of_check(table)
 }
 
 // Username and password of a login body, for the host to judge.
@@ -70,7 +70,7 @@ pub fn answer(
 ) -> Outcome
     ensures { λ r. ⌜ result r (now (table .exit)) (now (out .exit)) (now («cookie_out» .exit)) ≡ answerOf (inputs (now (table .entry)) (now (register .entry)) method (now (target .entry)) (now (body .entry)) (now (cookie .entry)) time (now (random .entry)) verdict (now (out .entry)) (now («cookie_out» .entry))) ⌝ }
 {
-    let number = refuse::of_answer(
+    let number = refusal::of_answer(
         table,
         register,
         target.len(),
@@ -83,7 +83,7 @@ pub fn answer(
     if number != 0 {
         return refused(number);
     }
-    edit::tick(table, time);
+    table_edit::tick(table, time);
     route::request(
         table,
         register,
@@ -102,11 +102,11 @@ pub fn answer(
 pub fn finish(table: &mut [u8], serial: u32, outcome: bool, time: u64, out: &mut [u8]) -> Outcome
     ensures { λ r. ⌜ result r (now (table .exit)) (now (out .exit)) [] ≡ finishOf (now (table .entry)) serial outcome time (now (out .entry)) ⌝ }
 {
-    let number = refuse::of_finish(table, time, out.len());
+    let number = refusal::of_finish(table, time, out.len());
     if number != 0 {
         return refused(number);
     }
-    edit::tick(table, time);
+    table_edit::tick(table, time);
     finish::finish(table, serial, outcome, out)
 }
 
@@ -121,7 +121,7 @@ pub fn visit(
 ) -> Visit
     ensures { λ r. ⌜ visitRead r (now (table .entry)) (now (out .exit)) ≡ visitOf (now (table .entry)) (now (cookie .entry)) number time (now (random .entry)) (now (out .entry)) ⌝ }
 {
-    let refusal = refuse::of_visit(table, time, random.len(), out.len());
+    let refusal = refusal::of_visit(table, time, random.len(), out.len());
     if refusal != 0 {
         return Visit { refusal, length: 0 };
     }

@@ -1,2 +1,2 @@
--- What a validator is asked.
-pub mod Asked
+-- What was read of a validator's request.
+pub mod Given

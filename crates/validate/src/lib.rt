@@ -1,114 +1,121 @@
-// The validators: /cas/validate, /cas/serviceValidate and /cas/proxyValidate. The request is judged before anything is spent,
-// then its values are decoded and the ticket is presented.
+// The validators: /cas/validate, /cas/serviceValidate and /cas/proxyValidate. The request is read before anything is spent,
+// then its values are decoded and the ticket is shown.
 use protocol::Outcome;
 use protocol::Validator;
 use request::ValidatorQuery;
+use request::Value;
 use xml::Code;
-ghost use mathlib.Core.Path.{_≡_};
 ghost use mathlib.Core.Bool.{false};
 ghost use Prim.Native.Nat.{_≤_};
 ghost use lib.ListN.{length};
 ghost use Rattle.protocol.specs.Table.{decodeTable};
-ghost use Rattle.protocol.specs.Request.{malformed, validatorNames};
-ghost use Rattle.protocol.specs.Steps.{validate};
-ghost use Rattle.protocol.specs.Written.{Wrote};
-ghost use Rattle.protocol.specs.Held.{Done, Lent};
-ghost use Rattle.protocol.specs.Calls.{bringing};
-ghost use Rattle.validate.specs.Asked.{callbackIn, Told, Asked};
-
-// The callback's address, which only the two in XML read.
-fn read_callback(validator: Validator, q: &[u8], url: &mut [u8]) -> usize
-    requires { ⌜ (malformed false (validatorNames validator) (now q) ≡ false) × (200 ≤ length (now url)) ⌝ }
-    ensures { λ r. ⌜ Wrote (now (url .entry)) 0 (now (url .exit)) r (callbackIn validator (now (q .entry))) ⌝ }
-{
-    match validator {
-        Validator::Plain => 0,
-        Validator::Service => request::read_query(q, b"pgtUrl", url),
-        Validator::Proxy => request::read_query(q, b"pgtUrl", url),
-    }
-}
+ghost use Rattle.protocol.specs.Request.{shown};
+ghost use Rattle.protocol.specs.Steps.{presented, ticketSlot, validate};
+ghost use Rattle.protocol.specs.Held.{Done, Lent, bringing};
+ghost use Rattle.request.specs.Value.{valueAt};
+ghost use Rattle.validate.specs.Given.{Values, given};
 
 // With room for the decoded values.
-fn decode_and_present(
+fn decode_and_show(
     table: &mut [u8],
     register: &[u8],
     validator: Validator,
     q: &[u8],
+    service: Value,
+    ticket: Value,
     renew: bool,
+    url: Value,
     random: &[u8],
     out: &mut [u8],
-    ticket: &mut [u8],
-    service: &mut [u8],
-    url: &mut [u8],
+    for_ticket: &mut [u8],
+    for_service: &mut [u8],
+    for_url: &mut [u8],
 ) -> Outcome
-    requires { ⌜ (Lent (now table) (now register) (now random) (now out)) × (Asked validator (now q) renew) × (64 ≤ length (now ticket)) × (200 ≤ length (now service)) × (200 ≤ length (now url)) ⌝ }
-    ensures { λ r. ⌜ Done (validate validator (now (q .entry)) (bringing (now (register .entry)) (now (random .entry))) (decodeTable (now (table .entry)))) r (now (table .exit)) (now (out .entry)) (now (out .exit)) ⌝ }
+    requires { ⌜ (Lent (now table) (now register) (now random) (now out)) × (Values (now q) service ticket url) × (64 ≤ length (now «for_ticket»)) × (200 ≤ length (now «for_service»)) × (200 ≤ length (now «for_url»)) ⌝ }
+    ensures { λ r. ⌜ Done (presented validator (ticketSlot (valueAt false (now (q .entry)) ticket) (decodeTable (now (table .entry)))) renew (valueAt false (now (q .entry)) service) (valueAt false (now (q .entry)) url) (bringing (now (register .entry)) (now (random .entry))) (decodeTable (now (table .entry)))) r (now (table .exit)) (now (out .entry)) (now (out .exit)) ⌝ }
 {
-    let t = request::read_query(q, b"ticket", ticket);
-    let s = request::read_query(q, b"service", service);
-    let u = read_callback(validator, q, url);
-    spend::present(
+    let t = request::read(q, ticket, false, for_ticket);
+    let s = request::read(q, service, false, for_service);
+    let u = request::read(q, url, false, for_url);
+    present::show(
         table,
         register,
         validator,
-        &ticket[..t],
+        &for_ticket[..t],
         renew,
-        &service[..s],
-        &url[..u],
+        &for_service[..s],
+        &for_url[..u],
         random,
         out,
     )
 }
 
-// A ticket and a service are given.
-fn present(
+fn show_given(
     table: &mut [u8],
     register: &[u8],
     validator: Validator,
     q: &[u8],
+    service: Value,
+    ticket: Value,
     renew: bool,
+    url: Value,
     random: &[u8],
     out: &mut [u8],
 ) -> Outcome
-    requires { ⌜ (Lent (now table) (now register) (now random) (now out)) × (Asked validator (now q) renew) ⌝ }
-    ensures { λ r. ⌜ Done (validate validator (now (q .entry)) (bringing (now (register .entry)) (now (random .entry))) (decodeTable (now (table .entry)))) r (now (table .exit)) (now (out .entry)) (now (out .exit)) ⌝ }
+    requires { ⌜ (Lent (now table) (now register) (now random) (now out)) × (Values (now q) service ticket url) ⌝ }
+    ensures { λ r. ⌜ Done (presented validator (ticketSlot (valueAt false (now (q .entry)) ticket) (decodeTable (now (table .entry)))) renew (valueAt false (now (q .entry)) service) (valueAt false (now (q .entry)) url) (bringing (now (register .entry)) (now (random .entry))) (decodeTable (now (table .entry)))) r (now (table .exit)) (now (out .entry)) (now (out .exit)) ⌝ }
 {
-    let mut ticket = [0u8; 64];
-    let mut service = [0u8; 200];
-    let mut url = [0u8; 200];
-    decode_and_present(
+    let mut for_ticket = [0u8; 64];
+    let mut for_service = [0u8; 200];
+    let mut for_url = [0u8; 200];
+    decode_and_show(
         table,
         register,
         validator,
         q,
+        service,
+        ticket,
         renew,
+        url,
         random,
         out,
-        &mut ticket,
-        &mut service,
-        &mut url,
+        &mut for_ticket,
+        &mut for_service,
+        &mut for_url,
     )
 }
 
-// A request that is not malformed, by the decoded lengths of its service and ticket.
+// A request that is not malformed: a service and a ticket must be there.
 fn validate_given(
     table: &mut [u8],
     register: &[u8],
     validator: Validator,
     q: &[u8],
-    service: usize,
-    ticket: usize,
+    service: Value,
+    ticket: Value,
     renew: bool,
+    url: Value,
     random: &[u8],
     out: &mut [u8],
 ) -> Outcome
-    requires { ⌜ (Lent (now table) (now register) (now random) (now out)) × (Told validator (now q) service ticket renew) ⌝ }
-    ensures { λ r. ⌜ Done (validate validator (now (q .entry)) (bringing (now (register .entry)) (now (random .entry))) (decodeTable (now (table .entry)))) r (now (table .exit)) (now (out .entry)) (now (out .exit)) ⌝ }
+    requires { ⌜ (Lent (now table) (now register) (now random) (now out)) × (Values (now q) service ticket url) ⌝ }
+    ensures { λ r. ⌜ Done (validate validator (given (now (q .entry)) service ticket renew url) (bringing (now (register .entry)) (now (random .entry))) (decodeTable (now (table .entry)))) r (now (table .exit)) (now (out .entry)) (now (out .exit)) ⌝ }
 {
-    if (service == 0) | (ticket == 0) {
-        return spend::fail(validator, Code::InvalidRequest, out);
+    if (service.length == 0) | (ticket.length == 0) {
+        return present::fail(validator, Code::InvalidRequest, out);
     }
-    present(table, register, validator, q, renew, random, out)
+    show_given(
+        table,
+        register,
+        validator,
+        q,
+        service,
+        ticket,
+        renew,
+        url,
+        random,
+        out,
+    )
 }
 
 pub fn validate(
@@ -120,15 +127,15 @@ pub fn validate(
     out: &mut [u8],
 ) -> Outcome
     requires { ⌜ Lent (now table) (now register) (now random) (now out) ⌝ }
-    ensures { λ r. ⌜ Done (validate validator (now (q .entry)) (bringing (now (register .entry)) (now (random .entry))) (decodeTable (now (table .entry)))) r (now (table .exit)) (now (out .entry)) (now (out .exit)) ⌝ }
+    ensures { λ r. ⌜ Done (validate validator (shown validator (now (q .entry))) (bringing (now (register .entry)) (now (random .entry))) (decodeTable (now (table .entry)))) r (now (table .exit)) (now (out .entry)) (now (out .exit)) ⌝ }
 {
     match request::validator_query(validator, q) {
-        ValidatorQuery::Malformed => spend::fail(validator, Code::InvalidRequest, out),
+        ValidatorQuery::Malformed => present::fail(validator, Code::InvalidRequest, out),
         ValidatorQuery::Given {
             service,
             ticket,
             renew,
-            pgt_url: _,
+            pgt_url,
         } => validate_given(
             table,
             register,
@@ -137,6 +144,7 @@ pub fn validate(
             service,
             ticket,
             renew,
+            pgt_url,
             random,
             out,
         ),

@@ -19,10 +19,10 @@ use Rattle.protocol.specs.Calls.{unless}
 use Rattle.protocol.specs.Visits.{isVisit, visitsIn, visitsOf, visitText, visitUnless, visitRefusal, visitSaid, VisitRead, visitRead, visitGiven, visitRefused, visitOf}
 use Rattle.protocol.proofs.Places.{slots-count}
 use Rattle.protocol.proofs.Held.{slot-in}
-use Rattle.find.specs.declared.Found.{Found}
-use Rattle.find.specs.declared.Found.the-variants.{At, Nothing}
-use Rattle.find.specs.Searches.{foundAt}
-use Rattle.find.proofs.Laws.{at-slot, slots-from, found-some, found-zero, found-is, found-low, found-none}
+use Rattle.table_find.specs.declared.Found.{Found}
+use Rattle.table_find.specs.declared.Found.the-variants.{At, Nothing}
+use Rattle.table_find.specs.Searches.{foundAt}
+use Rattle.table_find.proofs.Laws.{at-slot, slots-from, found-some, found-zero, found-is, found-low, found-none}
 use Rattle.visit.specs.Telling.{visitFrom, visitSlot, told}
 
 pub is-visit : (r : Rec) (s : ℕ) {k n : ℕ} → k ≡ r .kind → n ≡ r .session → eqb k 7 && eqb n s ≡ isVisit s r

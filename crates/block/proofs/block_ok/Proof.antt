@@ -4,18 +4,8 @@ use borrow.Author.Needs.{needs}
 use Rattle.block.proofs.block_ok.Statement.{statement}
 use Rattle.block.proofs.block_ok.Tie as tie
 
-returns : tie.Need-returns
-returns c = search right-in-place
-
 pub block-ok-spec : {M : Type 1} → statement M
 block-ok-spec =
     tie.close
-    (tie.spec
-    (λ c. search needs)
-    (λ c. search needs)
-    (λ c. search needs)
-    (λ c. search needs)
-    (λ c. search needs)
-    (λ c κs. search needs)
-    (λ c κs. search needs)
-    returns)
+    (tie.spec (λ c. search needs) (λ c. search needs) (λ c. search needs) (λ c. search needs) (λ c. search needs) (λ c κs. search needs)
+    (λ c κs. search needs) (λ c. search right-in-place))

@@ -30,18 +30,5 @@ returns c = (search got-all, search got-below)
 pub get-spec : {M : Type 1} → statement M
 get-spec =
     tie.close
-    (tie.spec
-    Inv-loop
-    μ-loop
-    loop-holds
-    (λ c. omega arith)
-    (λ c. omega arith)
-    mul-v
-    (λ c. omega arith)
-    (λ c. omega arith)
-    (λ c κs. search needs)
-    add-v
-    (λ c. omega arith)
-    (λ c. omega arith)
-    loop-again
-    returns)
+    (tie.spec Inv-loop μ-loop loop-holds (λ c. omega arith) (λ c. omega arith) mul-v (λ c. omega arith) (λ c. omega arith) (λ c κs. search needs)
+    add-v (λ c. omega arith) (λ c. omega arith) loop-again returns)

@@ -4,10 +4,7 @@ use borrow.Author.Needs.{needs}
 use Rattle.block.proofs.pad_at.Statement.{statement}
 use Rattle.block.proofs.pad_at.Tie as tie
 
-returns : tie.Need-returns
-returns c = search padded
-
 pub pad-at-spec : {M : Type 1} → statement M
 pad-at-spec =
     tie.close
-    (tie.spec (λ c κs. search needs) (λ c. search needs) (λ c. search needs) (λ c κs. search needs) (λ c. search needs) returns)
+    (tie.spec (λ c κs. search needs) (λ c. search needs) (λ c. search needs) (λ c κs. search needs) (λ c. search needs) (λ c. search padded))

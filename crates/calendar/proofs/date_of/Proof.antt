@@ -4,11 +4,5 @@ use Rattle.calendar.proofs.Months.{day-fits, date-is}
 use Rattle.calendar.proofs.date_of.Statement.{statement}
 use Rattle.calendar.proofs.date_of.Tie as tie
 
-month-of-requires : tie.Need-month-of-requires
-month-of-requires c κs = search (needs, day-fits)
-
-returns : tie.Need-returns
-returns c = search (needs, date-is)
-
 pub date-of-spec : {M : Type 1} → statement M
-date-of-spec = tie.close (tie.spec (λ c κs. search needs) month-of-requires returns)
+date-of-spec = tie.close (tie.spec (λ c κs. search needs) (λ c κs. search (needs, day-fits)) (λ c. search (needs, date-is)))

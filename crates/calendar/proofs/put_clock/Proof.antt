@@ -13,20 +13,8 @@ put-two-requires-2 c κs = (search (needs, room-minute), search needs)
 put-two-requires-3 : tie.Need-put-two-requires-3
 put-two-requires-3 c κs = (search (needs, room-second), search needs)
 
-put-bytes-requires : tie.Need-put-bytes-requires
-put-bytes-requires c κs = search (needs, room-end)
-
-returns : tie.Need-returns
-returns c = search (needs, clock-wrote)
-
 pub put-clock-spec : {M : Type 1} → statement M
 put-clock-spec =
     tie.close
-    (tie.spec
-    put-two-requires
-    put-two-requires-2
-    put-two-requires-3
-    (λ c. search needs)
-    put-bytes-requires
-    (λ c. search needs)
-    returns)
+    (tie.spec put-two-requires put-two-requires-2 put-two-requires-3 (λ c. search needs) (λ c κs. search (needs, room-end)) (λ c. search needs)
+    (λ c. search (needs, clock-wrote)))

@@ -10,8 +10,5 @@ put-day-requires c κs = (search (needs, date-room-day), search needs)
 put-clock-requires : tie.Need-put-clock-requires
 put-clock-requires c κs = (search (needs, date-room-clock), search needs)
 
-returns : tie.Need-returns
-returns c = search (needs, date-wrote)
-
 pub put-date-spec : {M : Type 1} → statement M
-put-date-spec = tie.close (tie.spec put-day-requires put-clock-requires (λ c. search needs) returns)
+put-date-spec = tie.close (tie.spec put-day-requires put-clock-requires (λ c. search needs) (λ c. search (needs, date-wrote)))

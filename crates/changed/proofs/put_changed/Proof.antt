@@ -4,10 +4,8 @@ use Rattle.changed.proofs.Writing.{changed-put}
 use Rattle.changed.proofs.put_changed.Statement.{statement}
 use Rattle.changed.proofs.put_changed.Tie as tie
 
-returns : tie.Need-returns
-returns c = search (needs, changed-put)
-
 pub put-changed-spec : {M : Type 1} → statement M
 put-changed-spec =
     tie.close
-    (tie.spec (λ c. search needs) (λ c κs. search needs) (λ c. search needs) (λ c κs. search needs) (λ c. search needs) returns)
+    (tie.spec (λ c. search needs) (λ c κs. search needs) (λ c. search needs) (λ c κs. search needs) (λ c. search needs)
+    (λ c. search (needs, changed-put)))

@@ -1,11 +1,8 @@
--- `decode::byte_at` meets its contract. Assumes nothing.
+-- The byte, or 0 past the end. Assumes nothing.
 use borrow.Author.Needs.{needs}
 use Rattle.decode.proofs.Laws.{byte-none}
 use Rattle.decode.proofs.byte_at.Statement.{statement}
 use Rattle.decode.proofs.byte_at.Tie as tie
 
-returns-2 : tie.Need-returns-2
-returns-2 c = search (needs, byte-none)
-
 pub byte-at-spec : {M : Type 1} → statement M
-byte-at-spec = tie.close (tie.spec (λ c. search needs) (λ c. search needs) returns-2)
+byte-at-spec = tie.close (tie.spec (λ c. search needs) (λ c. search needs) (λ c. search (needs, byte-none)))

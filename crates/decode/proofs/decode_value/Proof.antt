@@ -1,4 +1,4 @@
--- `decode::decode_value` meets its contract. Invariant: what is left to write is what is left to decode, and its bytes are bytes. Assumes nothing.
+-- Invariant: what is left to write is what is left to decode, and its bytes are bytes. Assumes nothing.
 use borrow.Author.Needs.{needs}
 use mathlib.Core.Path.{_≡_}
 use mathlib.Core.Bool.{true}
@@ -38,15 +38,5 @@ returns c = search (needs, write-done)
 pub decode-value-spec : {M : Type 1} → statement M
 decode-value-spec =
     tie.close
-    (tie.spec
-    Inv-loop
-    μ-loop
-    loop-holds
-    (λ c κs. search needs)
-    cast-out
-    slice-write-out
-    add-to
-    (λ c. search needs)
-    loop-again
-    (λ c. search needs)
+    (tie.spec Inv-loop μ-loop loop-holds (λ c κs. search needs) cast-out slice-write-out add-to (λ c. search needs) loop-again (λ c. search needs)
     returns)

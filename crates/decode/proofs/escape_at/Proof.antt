@@ -1,28 +1,12 @@
--- `decode::escape_at` meets its contract: two hex digits are one byte, and a `%` without them is no byte. Assumes nothing.
+-- Two hex digits are one byte, and a `%` without them is no byte. Assumes nothing.
 use borrow.Author.Needs.{needs}
 use Rattle.decode.proofs.Laws.{escape-byte, escape-bad}
 use Rattle.decode.proofs.escape_at.Statement.{statement}
 use Rattle.decode.proofs.escape_at.Tie as tie
 
-returns : tie.Need-returns
-returns c = search (needs, escape-byte)
-
-returns-2 : tie.Need-returns-2
-returns-2 c = search (needs, escape-bad)
-
 pub escape-at-spec : {M : Type 1} → statement M
 escape-at-spec =
     tie.close
-    (tie.spec
-    (λ c. search needs)
-    (λ c κs. search needs)
-    (λ c κs. search needs)
-    (λ c. search needs)
-    (λ c κs. search needs)
-    (λ c κs. search needs)
-    (λ c. search needs)
-    (λ c. search needs)
-    (λ c. search needs)
-    returns
-    (λ c. search needs)
-    returns-2)
+    (tie.spec (λ c. search needs) (λ c κs. search needs) (λ c κs. search needs) (λ c. search needs) (λ c κs. search needs) (λ c κs. search needs)
+    (λ c. search needs) (λ c. search needs) (λ c. search needs) (λ c. search (needs, escape-byte)) (λ c. search needs)
+    (λ c. search (needs, escape-bad)))

@@ -1,4 +1,4 @@
--- `decode::judge` meets its contract. Invariant: what was passed is right, so that what is left decides, and so many bytes were passed. Assumes nothing.
+-- Invariant: what was passed is right, so that what is left decides, and so many bytes were passed. Assumes nothing.
 use borrow.Author.Needs.{needs}
 use mathlib.Core.Path.{_≡_}
 use Prim.Native.Nat.{_+_, _-_, _≤_}
@@ -33,15 +33,5 @@ returns-4 c = search (needs, judge-long)
 pub judge-spec : {M : Type 1} → statement M
 judge-spec =
     tie.close
-    (tie.spec
-    Inv-loop
-    μ-loop
-    (λ c. search needs)
-    (λ c κs. search needs)
-    returns
-    returns-2
-    (λ c. search needs)
-    (λ c. search needs)
-    loop-again
-    returns-3
-    returns-4)
+    (tie.spec Inv-loop μ-loop (λ c. search needs) (λ c κs. search needs) returns returns-2 (λ c. search needs) (λ c. search needs) loop-again
+    returns-3 returns-4)

@@ -1,4 +1,4 @@
--- `decode::judge_name` meets its contract. Invariant: the state and what is left decide, and so many bytes were passed. Assumes nothing.
+-- Invariant: the state and what is left decide, and so many bytes were passed. Assumes nothing.
 use borrow.Author.Needs.{needs}
 use mathlib.Core.Path.{_≡_}
 use Prim.Native.Nat.{_+_, _-_, _≤_}
@@ -32,15 +32,5 @@ returns-2 c = search (needs, name-bad)
 pub judge-name-spec : {M : Type 1} → statement M
 judge-name-spec =
     tie.close
-    (tie.spec
-    Inv-loop
-    μ-loop
-    loop-holds
-    (λ c κs. search needs)
-    (λ c κs. search needs)
-    (λ c. search needs)
-    (λ c. search needs)
-    loop-again
-    (λ c κs. search needs)
-    returns
-    returns-2)
+    (tie.spec Inv-loop μ-loop loop-holds (λ c κs. search needs) (λ c κs. search needs) (λ c. search needs) (λ c. search needs) loop-again
+    (λ c κs. search needs) returns returns-2)

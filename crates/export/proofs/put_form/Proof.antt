@@ -4,8 +4,7 @@ use Rattle.export.proofs.Laws.{form-put}
 use Rattle.export.proofs.put_form.Statement.{statement}
 use Rattle.export.proofs.put_form.Tie as tie
 
-returns : tie.Need-returns
-returns c = search form-put
-
 pub put-form-spec : {M : Type 1} → statement M
-put-form-spec = tie.close (tie.spec (λ c. search needs) (λ c. search needs) (λ c. search needs) (λ c. search needs) (λ c. search needs) returns)
+put-form-spec =
+    tie.close
+    (tie.spec (λ c. search needs) (λ c. search needs) (λ c. search needs) (λ c. search needs) (λ c. search needs) (λ c. search form-put))

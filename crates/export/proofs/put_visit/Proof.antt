@@ -4,8 +4,5 @@ use Rattle.export.proofs.Laws.{visit-put}
 use Rattle.export.proofs.put_visit.Statement.{statement}
 use Rattle.export.proofs.put_visit.Tie as tie
 
-returns : tie.Need-returns
-returns c = search visit-put
-
 pub put-visit-spec : {M : Type 1} → statement M
-put-visit-spec = tie.close (tie.spec (λ c. search needs) (λ c. search needs) (λ c. search needs) (λ c. search needs) returns)
+put-visit-spec = tie.close (tie.spec (λ c. search needs) (λ c. search needs) (λ c. search needs) (λ c. search needs) (λ c. search visit-put))

@@ -4,11 +4,8 @@ use Rattle.export.proofs.Laws.{answer-none, answer-some}
 use Rattle.export.proofs.pyhtirso_answer.Statement.{statement}
 use Rattle.export.proofs.pyhtirso_answer.Tie as tie
 
-returns : tie.Need-returns
-returns c = search answer-none
-
-returns-2 : tie.Need-returns-2
-returns-2 c = search answer-some
-
 pub pyhtirso-answer-spec : {M : Type 1} → statement M
-pyhtirso-answer-spec = tie.close (tie.spec returns (λ c κs. search needs) (λ c κs. search needs) (λ c κs. search needs) (λ c. search needs) (λ c. search needs) (λ c. search needs) (λ c. search needs) returns-2)
+pyhtirso-answer-spec =
+    tie.close
+    (tie.spec (λ c. search answer-none) (λ c κs. search needs) (λ c κs. search needs) (λ c κs. search needs) (λ c. search needs) (λ c. search needs)
+    (λ c. search needs) (λ c. search needs) (λ c. search answer-some))

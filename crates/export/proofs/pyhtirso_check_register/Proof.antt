@@ -4,12 +4,7 @@ use Rattle.export.proofs.Laws.{fault-none, fault-some}
 use Rattle.export.proofs.pyhtirso_check_register.Statement.{statement}
 use Rattle.export.proofs.pyhtirso_check_register.Tie as tie
 
-returns : tie.Need-returns
-returns c = search fault-none
-
-returns-2 : tie.Need-returns-2
-returns-2 c = search fault-some
-
 pub pyhtirso-check-register-spec : {M : Type 1} → statement M
 pyhtirso-check-register-spec =
-    tie.close (tie.spec returns (λ c κs. search needs) (λ c κs. search needs) (λ c. search needs) returns-2)
+    tie.close
+    (tie.spec (λ c. search fault-none) (λ c κs. search needs) (λ c κs. search needs) (λ c. search needs) (λ c. search fault-some))

@@ -4,11 +4,8 @@ use Rattle.export.proofs.Laws.{form-none, form-some}
 use Rattle.export.proofs.pyhtirso_read_form.Statement.{statement}
 use Rattle.export.proofs.pyhtirso_read_form.Tie as tie
 
-returns : tie.Need-returns
-returns c = search form-none
-
-returns-2 : tie.Need-returns-2
-returns-2 c = search form-some
-
 pub pyhtirso-read-form-spec : {M : Type 1} → statement M
-pyhtirso-read-form-spec = tie.close (tie.spec returns (λ c κs. search needs) (λ c κs. search needs) (λ c. search needs) (λ c. search needs) (λ c. search needs) returns-2)
+pyhtirso-read-form-spec =
+    tie.close
+    (tie.spec (λ c. search form-none) (λ c κs. search needs) (λ c κs. search needs) (λ c. search needs) (λ c. search needs) (λ c. search needs)
+    (λ c. search form-some))

@@ -4,21 +4,8 @@ use Rattle.finish.proofs.Laws.{settled-yes, settled-no}
 use Rattle.finish.proofs.settle.Statement.{statement}
 use Rattle.finish.proofs.settle.Tie as tie
 
-returns : tie.Need-returns
-returns c = search (needs, settled-yes)
-
-returns-2 : tie.Need-returns-2
-returns-2 c = search (needs, settled-no)
-
 pub settle-spec : {M : Type 1} → statement M
 settle-spec =
     tie.close
-    (tie.spec
-    (λ c κs. search needs)
-    (λ c. search needs)
-    (λ c. search needs)
-    returns
-    (λ c κs. search needs)
-    (λ c. search needs)
-    (λ c. search needs)
-    returns-2)
+    (tie.spec (λ c κs. search needs) (λ c. search needs) (λ c. search needs) (λ c. search (needs, settled-yes)) (λ c κs. search needs)
+    (λ c. search needs) (λ c. search needs) (λ c. search (needs, settled-no)))

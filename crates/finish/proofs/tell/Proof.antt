@@ -4,21 +4,8 @@ use Rattle.finish.proofs.Laws.{tell-ready, tell-said}
 use Rattle.finish.proofs.tell.Statement.{statement}
 use Rattle.finish.proofs.tell.Tie as tie
 
-say-success-requires : tie.Need-say-success-requires
-say-success-requires c κs = search (needs, tell-ready)
-
-returns : tie.Need-returns
-returns c = search (needs, tell-said)
-
 pub tell-spec : {M : Type 1} → statement M
 tell-spec =
     tie.close
-    (tie.spec
-    (λ c κs. search needs)
-    (λ c. search needs)
-    (λ c κs. search needs)
-    (λ c. search needs)
-    (λ c κs. search needs)
-    say-success-requires
-    (λ c. search needs)
-    returns)
+    (tie.spec (λ c κs. search needs) (λ c. search needs) (λ c κs. search needs) (λ c. search needs) (λ c κs. search needs)
+    (λ c κs. search (needs, tell-ready)) (λ c. search needs) (λ c. search (needs, tell-said)))

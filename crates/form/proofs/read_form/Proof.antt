@@ -1,25 +1,14 @@
--- `form::read_form` meets its contract. Assumes nothing.
+-- Each refusal in its turn, then what was read. Assumes nothing.
 use borrow.Author.Needs.{needs}
-use Rattle.form.proofs.Laws.{room-username, room-password, body-fine, form-refused, form-read}
+use Rattle.form.proofs.Laws.{short-username, short-password, long-body, bad-body, no-username, no-password, username-fits, password-fits, form-read}
 use Rattle.form.proofs.read_form.Statement.{statement}
 use Rattle.form.proofs.read_form.Tie as tie
-
-returns : tie.Need-returns
-returns c = search (needs, form-refused)
-
-read-credentials-requires : tie.Need-read-credentials-requires
-read-credentials-requires c κs = search (needs, room-username, room-password, body-fine)
-
-returns-2 : tie.Need-returns-2
-returns-2 c = search (needs, form-read)
 
 pub read-form-spec : {M : Type 1} → statement M
 read-form-spec =
     tie.close
-    (tie.spec
-    (λ c κs. search needs)
-    returns
-    read-credentials-requires
-    (λ c. search needs)
-    (λ c. search needs)
-    returns-2)
+    (tie.spec (λ c κs. search needs) (λ c. search (needs, short-username)) (λ c κs. search needs) (λ c. search (needs, short-password))
+    (λ c κs. search needs) (λ c. search (needs, long-body)) (λ c κs. search needs) (λ c. search needs) (λ c. search needs) (λ c κs. search needs)
+    (λ c. search (needs, bad-body)) (λ c κs. search needs) (λ c. search (needs, no-username)) (λ c κs. search needs)
+    (λ c. search (needs, no-password)) (λ c κs. search (needs, username-fits, password-fits)) (λ c. search needs) (λ c. search needs)
+    (λ c. search (needs, form-read)))

@@ -1,6 +1,6 @@
 -- The session that is found ends; where none is found nothing changes.
 use borrow.Author.Needs.{needs}
-use Rattle.find.proofs.Laws.{named-slot}
+use Rattle.table_find.proofs.Laws.{named-slot}
 use Rattle.logout.proofs.Laws.{ended, nobody}
 use Rattle.logout.proofs.end_named.Statement.{statement}
 use Rattle.logout.proofs.end_named.Tie as tie
@@ -8,11 +8,8 @@ use Rattle.logout.proofs.end_named.Tie as tie
 end-session-requires : tie.Need-end-session-requires
 end-session-requires c κs = (search needs, search named-slot)
 
-returns : tie.Need-returns
-returns c = search ended
-
-returns-2 : tie.Need-returns-2
-returns-2 c = search nobody
-
 pub end-named-spec : {M : Type 1} → statement M
-end-named-spec = tie.close (tie.spec (λ c κs. search needs) (λ c. search needs) end-session-requires (λ c. search needs) (λ c. search needs) returns (λ c. search needs) returns-2)
+end-named-spec =
+    tie.close
+    (tie.spec (λ c κs. search needs) (λ c. search needs) end-session-requires (λ c. search needs) (λ c. search needs) (λ c. search ended)
+    (λ c. search needs) (λ c. search nobody))

@@ -4,8 +4,7 @@ use Rattle.logout.proofs.Laws.{left-done}
 use Rattle.logout.proofs.leave.Statement.{statement}
 use Rattle.logout.proofs.leave.Tie as tie
 
-returns : tie.Need-returns
-returns c = search left-done
-
 pub leave-spec : {M : Type 1} → statement M
-leave-spec = tie.close (tie.spec (λ c κs. search needs) (λ c κs. search needs) (λ c κs. search needs) (λ c. search needs) (λ c. search needs) returns)
+leave-spec =
+    tie.close
+    (tie.spec (λ c κs. search needs) (λ c κs. search needs) (λ c κs. search needs) (λ c. search needs) (λ c. search needs) (λ c. search left-done))

@@ -4,11 +4,8 @@ use Rattle.logout.proofs.Laws.{linked, unlinked}
 use Rattle.logout.proofs.say_link.Statement.{statement}
 use Rattle.logout.proofs.say_link.Tie as tie
 
-returns : tie.Need-returns
-returns c = search linked
-
-returns-2 : tie.Need-returns-2
-returns-2 c = search unlinked
-
 pub say-link-spec : {M : Type 1} → statement M
-say-link-spec = tie.close (tie.spec (λ c κs. search needs) (λ c κs. search needs) (λ c. search needs) returns (λ c. search needs) (λ c κs. search needs) (λ c. search needs) returns-2)
+say-link-spec =
+    tie.close
+    (tie.spec (λ c κs. search needs) (λ c κs. search needs) (λ c. search needs) (λ c. search linked) (λ c. search needs) (λ c κs. search needs)
+    (λ c. search needs) (λ c. search unlinked))

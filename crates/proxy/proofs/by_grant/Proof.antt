@@ -7,11 +7,8 @@ use Rattle.proxy.proofs.by_grant.Tie as tie
 under-requires : tie.Need-under-requires
 under-requires c κs = (search needs, search grant-live, search needs)
 
-returns : tie.Need-returns
-returns c = search by-slot
-
-returns-2 : tie.Need-returns-2
-returns-2 c = search no-grant
-
 pub by-grant-spec : {M : Type 1} → statement M
-by-grant-spec = tie.close (tie.spec (λ c κs. search needs) (λ c. search needs) under-requires (λ c. search needs) (λ c κs. search needs) (λ c. search needs) (λ c. search needs) returns (λ c. search needs) (λ c. search needs) returns-2)
+by-grant-spec =
+    tie.close
+    (tie.spec (λ c κs. search needs) (λ c. search needs) under-requires (λ c. search needs) (λ c κs. search needs) (λ c. search needs)
+    (λ c. search needs) (λ c. search by-slot) (λ c. search needs) (λ c. search needs) (λ c. search no-grant))

@@ -1,4 +1,4 @@
--- `query::path_named` meets its contract: each comparison is a rung of the definition. Assumes nothing.
+-- Each comparison is a rung of the definition. Assumes nothing.
 use borrow.Author.Needs.{needs}
 use Rattle.protocol.specs.Request.{pathNamed}
 use Rattle.query.proofs.Laws.{rung-no, rung-yes}
@@ -36,23 +36,6 @@ returns-7 c = search rung-no depth 12
 pub path-named-spec : {M : Type 1} → statement M
 path-named-spec =
     tie.close
-    (tie.spec
-    (λ c. search needs)
-    (λ c κs. search needs)
-    returns
-    (λ c. search needs)
-    (λ c κs. search needs)
-    returns-2
-    (λ c. search needs)
-    (λ c κs. search needs)
-    returns-3
-    (λ c. search needs)
-    (λ c κs. search needs)
-    returns-4
-    (λ c. search needs)
-    (λ c κs. search needs)
-    returns-5
-    (λ c. search needs)
-    (λ c κs. search needs)
-    returns-6
-    returns-7)
+    (tie.spec (λ c. search needs) (λ c κs. search needs) returns (λ c. search needs) (λ c κs. search needs) returns-2 (λ c. search needs)
+    (λ c κs. search needs) returns-3 (λ c. search needs) (λ c κs. search needs) returns-4 (λ c. search needs) (λ c κs. search needs) returns-5
+    (λ c. search needs) (λ c κs. search needs) returns-6 returns-7)

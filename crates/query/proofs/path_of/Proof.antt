@@ -1,4 +1,4 @@
--- `query::path_of` meets its contract: the path is what stands before the first `?`. Assumes nothing.
+-- The path is what stands before the first `?`. Assumes nothing.
 use mathlib.Core.Path.{sym}
 use borrow.Author.Needs.{needs}
 use Rattle.query.proofs.Laws.{path-cut}
@@ -9,9 +9,5 @@ use Rattle.query.proofs.path_of.Tie as tie
 slice-aggregate-path-named : tie.Need-slice-aggregate-path-named
 slice-aggregate-path-named c = sym (length-take-le _ _ (search needs))
 
-returns : tie.Need-returns
-returns c = search (needs, path-cut)
-
 pub path-of-spec : {M : Type 1} → statement M
-path-of-spec =
-    tie.close (tie.spec (λ c κs. search needs) slice-aggregate-path-named (λ c κs. search needs) returns)
+path-of-spec = tie.close (tie.spec (λ c κs. search needs) slice-aggregate-path-named (λ c κs. search needs) (λ c. search (needs, path-cut)))

@@ -1,4 +1,4 @@
--- `register::callback_in` meets its contract. Assumes nothing.
+-- The second text of a block, by its length. Assumes nothing.
 use borrow.Author.Needs.{needs}
 use Rattle.protocol.specs.Register.{decodeEntry}
 use Rattle.register.proofs.callback_in.Statement.{statement}

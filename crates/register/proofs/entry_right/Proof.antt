@@ -1,12 +1,8 @@
--- `register::entry_right` meets its contract. Assumes nothing.
+-- The tests of one block, in the definition's order. Assumes nothing.
 use borrow.Author.Needs.{needs}
 use Rattle.register.proofs.Laws.{entry-as}
 use Rattle.register.proofs.entry_right.Statement.{statement}
 use Rattle.register.proofs.entry_right.Tie as tie
 
-returns : tie.Need-returns
-returns c = search (needs, entry-as)
-
 pub entry-right-spec : {M : Type 1} → statement M
-entry-right-spec =
-    tie.close (tie.spec (λ c κs. search needs) (λ c κs. search needs) (λ c κs. search needs) returns)
+entry-right-spec = tie.close (tie.spec (λ c κs. search needs) (λ c κs. search needs) (λ c κs. search needs) (λ c. search (needs, entry-as)))

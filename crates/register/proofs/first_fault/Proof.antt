@@ -1,4 +1,4 @@
--- `register::first_fault` meets its contract: the first of what is left is the first of all. Assumes nothing.
+-- The first of what is left is the first of all. Assumes nothing.
 use borrow.Author.Needs.{needs}
 use Prim.Native.Nat.{_-_}
 use Rattle.register.proofs.Laws.{Seeking, seek-start, seek-inside, seek-hit, seek-next, seek-none}
@@ -29,13 +29,4 @@ returns-2 c = search (needs, seek-none)
 pub first-fault-spec : {M : Type 1} → statement M
 first-fault-spec =
     tie.close
-    (tie.spec
-    Inv-loop
-    μ-loop
-    loop-holds
-    at-fault-requires
-    returns
-    (λ c. search needs)
-    (λ c. search needs)
-    loop-again
-    returns-2)
+    (tie.spec Inv-loop μ-loop loop-holds at-fault-requires returns (λ c. search needs) (λ c. search needs) loop-again returns-2)

@@ -1,4 +1,4 @@
--- `register::has_byte` meets its contract. Invariant: what is left decides. Assumes nothing.
+-- Invariant: what is left decides. Assumes nothing.
 use borrow.Author.Needs.{needs}
 use mathlib.Core.Path.{_≡_}
 use Prim.Native.Nat.{_-_, _≤_}
@@ -26,13 +26,4 @@ returns-2 c = search (needs, has-none)
 pub has-byte-spec : {M : Type 1} → statement M
 has-byte-spec =
     tie.close
-    (tie.spec
-    Inv-loop
-    μ-loop
-    (λ c. search needs)
-    (λ c. search needs)
-    returns
-    (λ c. search needs)
-    (λ c. search needs)
-    loop-again
-    returns-2)
+    (tie.spec Inv-loop μ-loop (λ c. search needs) (λ c. search needs) returns (λ c. search needs) (λ c. search needs) loop-again returns-2)

@@ -1,4 +1,4 @@
--- `register::place_of` meets its contract: what is left decides. Assumes nothing.
+-- What is left decides. Assumes nothing.
 use borrow.Author.Needs.{needs}
 use Prim.Native.Nat.{_-_}
 use Rattle.register.proofs.Laws.{Looking, look-start, look-inside, look-hit, look-next, look-none}
@@ -29,14 +29,5 @@ returns-2 c = search (needs, look-none)
 pub place-of-spec : {M : Type 1} → statement M
 place-of-spec =
     tie.close
-    (tie.spec
-    Inv-loop
-    μ-loop
-    loop-holds
-    service-at-requires
-    (λ c κs. search needs)
-    returns
-    (λ c. search needs)
-    (λ c. search needs)
-    loop-again
+    (tie.spec Inv-loop μ-loop loop-holds service-at-requires (λ c κs. search needs) returns (λ c. search needs) (λ c. search needs) loop-again
     returns-2)

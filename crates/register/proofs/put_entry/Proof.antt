@@ -1,4 +1,4 @@
--- `register::put_entry` meets its contract: four texts fill the 508 bytes that are sealed. Assumes nothing.
+-- Four texts fill the 508 bytes that are sealed. Assumes nothing.
 use borrow.Author.Needs.{needs}
 use Rattle.register.proofs.Making.{entry-filled}
 use Rattle.register.proofs.put_entry.Statement.{statement}
@@ -17,11 +17,5 @@ returns c =
 pub put-entry-spec : {M : Type 1} → statement M
 put-entry-spec =
     tie.close
-    (tie.spec
-    (λ c κs. search needs)
-    (λ c κs. search needs)
-    (λ c κs. search needs)
-    (λ c κs. search needs)
-    (λ c κs. search needs)
-    (λ c. search needs)
+    (tie.spec (λ c κs. search needs) (λ c κs. search needs) (λ c κs. search needs) (λ c κs. search needs) (λ c κs. search needs) (λ c. search needs)
     returns)

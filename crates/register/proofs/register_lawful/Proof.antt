@@ -1,11 +1,8 @@
--- `register::register_lawful` meets its contract. Assumes nothing.
+-- Lawful where no block is at fault. Assumes nothing.
 use borrow.Author.Needs.{needs}
 use Rattle.register.proofs.Laws.{lawful-as}
 use Rattle.register.proofs.register_lawful.Statement.{statement}
 use Rattle.register.proofs.register_lawful.Tie as tie
 
-returns : tie.Need-returns
-returns c = search (needs, lawful-as)
-
 pub register-lawful-spec : {M : Type 1} → statement M
-register-lawful-spec = tie.close (tie.spec (λ c κs. search needs) returns)
+register-lawful-spec = tie.close (tie.spec (λ c κs. search needs) (λ c. search (needs, lawful-as)))

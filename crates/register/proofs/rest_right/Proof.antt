@@ -1,25 +1,11 @@
--- `register::rest_right` meets its contract. Assumes nothing.
+-- What follows the callback is zero. Assumes nothing.
 use borrow.Author.Needs.{needs}
 use Rattle.register.proofs.Laws.{rest-as}
 use Rattle.register.proofs.rest_right.Statement.{statement}
 use Rattle.register.proofs.rest_right.Tie as tie
 
-returns : tie.Need-returns
-returns c = search (needs, rest-as)
-
 pub rest-right-spec : {M : Type 1} → statement M
 rest-right-spec =
     tie.close
-    (tie.spec
-    (λ c. search needs)
-    (λ c. search needs)
-    (λ c κs. search needs)
-    (λ c. search needs)
-    (λ c. search needs)
-    (λ c. search needs)
-    (λ c κs. search needs)
-    (λ c. search needs)
-    (λ c. search needs)
-    (λ c. search needs)
-    (λ c κs. search needs)
-    returns)
+    (tie.spec (λ c. search needs) (λ c. search needs) (λ c κs. search needs) (λ c. search needs) (λ c. search needs) (λ c. search needs)
+    (λ c κs. search needs) (λ c. search needs) (λ c. search needs) (λ c. search needs) (λ c κs. search needs) (λ c. search (needs, rest-as)))

@@ -1,20 +1,11 @@
--- `register::service_at` meets its contract. Assumes nothing.
+-- The service of a block in the middle of the register. Assumes nothing.
 use borrow.Author.Needs.{needs}
 use Rattle.register.proofs.Laws.{service-there}
 use Rattle.register.proofs.service_at.Statement.{statement}
 use Rattle.register.proofs.service_at.Tie as tie
 
-returns : tie.Need-returns
-returns c = search (needs, service-there)
-
 pub service-at-spec : {M : Type 1} → statement M
 service-at-spec =
     tie.close
-    (tie.spec
-    (λ c. search needs)
-    (λ c. search needs)
-    (λ c. search needs)
-    (λ c. search needs)
-    (λ c. search needs)
-    (λ c κs. search needs)
-    returns)
+    (tie.spec (λ c. search needs) (λ c. search needs) (λ c. search needs) (λ c. search needs) (λ c. search needs) (λ c κs. search needs)
+    (λ c. search (needs, service-there)))

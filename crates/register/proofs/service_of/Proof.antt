@@ -1,4 +1,4 @@
--- `register::service_of` meets its contract. Assumes nothing.
+-- The first text of a block, by its length. Assumes nothing.
 use borrow.Author.Needs.{needs}
 use Rattle.protocol.specs.Register.{decodeEntry}
 use Rattle.register.proofs.service_of.Statement.{statement}

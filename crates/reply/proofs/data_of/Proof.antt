@@ -1,4 +1,4 @@
--- `reply::data_of` meets its contract: case by case. Assumes nothing.
+-- Case by case. Assumes nothing.
 use borrow.Author.Needs.{needs}
 use Rattle.reply.proofs.Laws.{data-redirect, data-text, data-xml}
 use Rattle.reply.proofs.data_of.Statement.{statement}

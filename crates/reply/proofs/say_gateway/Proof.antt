@@ -5,4 +5,6 @@ use Rattle.reply.proofs.say_gateway.Statement.{statement}
 use Rattle.reply.proofs.say_gateway.Tie as tie
 
 pub say-gateway-spec : {M : Type 1} → statement M
-say-gateway-spec = tie.close (tie.spec (λ c. search needs) (λ c κs. search needs) (λ c κs. search needs) (λ c. search needs) (λ c. search said-gateway))
+say-gateway-spec =
+    tie.close
+    (tie.spec (λ c. search needs) (λ c κs. search needs) (λ c κs. search needs) (λ c. search needs) (λ c. search said-gateway))

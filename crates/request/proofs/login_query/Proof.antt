@@ -1,42 +1,11 @@
--- `request::login_query` meets its contract: the names one after the other. Assumes nothing.
+-- What the walk noted of each name, judged once. Assumes nothing.
 use borrow.Author.Needs.{needs}
-use Rattle.request.proofs.Laws.{login-malformed, login-given, bad-here, bad-later, good-here, good-length, no-names}
+use Rattle.request.proofs.Laws.{asked-malformed, asked-given}
 use Rattle.request.proofs.login_query.Statement.{statement}
 use Rattle.request.proofs.login_query.Tie as tie
-
-returns : tie.Need-returns
-returns c = search (login-malformed, bad-here, bad-later) depth 12
-
-returns-2 : tie.Need-returns-2
-returns-2 c = search (login-malformed, bad-here, bad-later) depth 12
-
-returns-3 : tie.Need-returns-3
-returns-3 c = search (login-malformed, bad-here, bad-later) depth 12
-
-returns-4 : tie.Need-returns-4
-returns-4 c = search (login-given, good-here, good-length, no-names) depth 12
 
 pub login-query-spec : {M : Type 1} → statement M
 login-query-spec =
     tie.close
-    (tie.spec
-    (λ c. search needs)
-    (λ c κs. search needs)
-    (λ c. search needs)
-    (λ c. search needs)
-    returns
-    (λ c. search needs)
-    (λ c κs. search needs)
-    (λ c. search needs)
-    (λ c. search needs)
-    returns-2
-    (λ c. search needs)
-    (λ c κs. search needs)
-    (λ c. search needs)
-    (λ c. search needs)
-    returns-3
-    (λ c. search needs)
-    (λ c κs. search needs)
-    (λ c. search needs)
-    (λ c κs. search needs)
-    returns-4)
+    (tie.spec (λ c. search needs) (λ c. search needs) (λ c. search needs) (λ c. search needs) (λ c κs. search needs) (λ c κs. search needs)
+    (λ c κs. search needs) (λ c κs. search needs) (λ c. search (needs, asked-malformed)) (λ c. search (needs, asked-given)))

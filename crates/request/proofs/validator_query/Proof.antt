@@ -1,47 +1,21 @@
--- `request::validator_query` meets its contract: the names one after the other. Assumes nothing.
+-- What the walk noted of each name, judged once. Assumes nothing.
 use borrow.Author.Needs.{needs}
-use Rattle.request.proofs.Laws.{validator-malformed, validator-given, bad-here, bad-later, good-here, good-length, callback-bad, callback-good, callback-length}
+use Rattle.request.proofs.Laws.{shown-malformed, shown-given}
 use Rattle.request.proofs.validator_query.Statement.{statement}
 use Rattle.request.proofs.validator_query.Tie as tie
 
 returns : tie.Need-returns
-returns c = search (validator-malformed, bad-here, bad-later, callback-bad) depth 12
+returns c =
+    let j = c .before .before .before .before .before in
+    shown-malformed _ _ _ (j .before .before .before .before .before .before .before .before .walk .ensures) _ _ _ _ (j .before .before .before .judge-text .ensures) (j .before .before .judge-text2 .ensures) (j .before .judge-text3 .ensures) (j .judge-callback .ensures) (c .if1 .taken)
 
 returns-2 : tie.Need-returns-2
-returns-2 c = search (validator-malformed, bad-here, bad-later, callback-bad) depth 12
-
-returns-3 : tie.Need-returns-3
-returns-3 c = search (validator-malformed, bad-here, bad-later, callback-bad) depth 12
-
-returns-4 : tie.Need-returns-4
-returns-4 c = search (validator-malformed, bad-here, bad-later, callback-bad) depth 12
-
-returns-5 : tie.Need-returns-5
-returns-5 c = search (validator-given, good-here, good-length, callback-good, callback-length) depth 12
+returns-2 c =
+    let j = c .before .before .before .before .before .before .before .before .before in
+    shown-given _ _ _ (j .before .before .before .before .before .before .before .before .walk .ensures) _ _ _ _ (j .before .before .before .judge-text .ensures) (j .before .before .judge-text2 .ensures) (j .before .judge-text3 .ensures) (j .judge-callback .ensures) (c .before .before .before .before .if1 .left)
 
 pub validator-query-spec : {M : Type 1} → statement M
 validator-query-spec =
     tie.close
-    (tie.spec
-    (λ c. search needs)
-    (λ c κs. search needs)
-    (λ c. search needs)
-    (λ c. search needs)
-    returns
-    (λ c. search needs)
-    (λ c κs. search needs)
-    (λ c. search needs)
-    (λ c. search needs)
-    returns-2
-    (λ c. search needs)
-    (λ c κs. search needs)
-    (λ c. search needs)
-    (λ c. search needs)
-    returns-3
-    (λ c κs. search needs)
-    (λ c. search needs)
-    (λ c. search needs)
-    returns-4
-    (λ c. search needs)
-    (λ c κs. search needs)
-    returns-5)
+    (tie.spec (λ c. search needs) (λ c. search needs) (λ c. search needs) (λ c. search needs) (λ c κs. search needs) (λ c κs. search needs)
+    (λ c κs. search needs) (λ c κs. search needs) (λ c κs. search needs) returns returns-2)

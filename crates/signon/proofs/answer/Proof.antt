@@ -1,12 +1,9 @@
--- `signon::answer` meets its contract: refused, or the request's step on the table after the clock. Assumes nothing.
+-- Refused, or the request's step on the table after the clock. Assumes nothing.
 use borrow.Author.Needs.{needs}
 use Rattle.protocol.proofs.Top.{top-refused}
 use Rattle.signon.proofs.Laws.{answer-lawful, answer-time, answer-cookie, answer-lent, answer-done}
 use Rattle.signon.proofs.answer.Statement.{statement}
 use Rattle.signon.proofs.answer.Tie as tie
-
-returns : tie.Need-returns
-returns c = search top-refused
 
 tick-requires : tie.Need-tick-requires
 tick-requires c κs = (search answer-lawful, search answer-time)
@@ -14,20 +11,8 @@ tick-requires c κs = (search answer-lawful, search answer-time)
 request-requires : tie.Need-request-requires
 request-requires c κs = (search answer-lent, search answer-cookie)
 
-returns-2 : tie.Need-returns-2
-returns-2 c = search answer-done
-
 pub answer-spec : {M : Type 1} → statement M
 answer-spec =
     tie.close
-    (tie.spec
-    (λ c κs. search needs)
-    (λ c κs. search needs)
-    (λ c. search needs)
-    returns
-    tick-requires
-    request-requires
-    (λ c. search needs)
-    (λ c. search needs)
-    (λ c. search needs)
-    returns-2)
+    (tie.spec (λ c κs. search needs) (λ c κs. search needs) (λ c. search needs) (λ c. search top-refused) tick-requires request-requires
+    (λ c. search needs) (λ c. search needs) (λ c. search needs) (λ c. search answer-done))

@@ -1,11 +1,8 @@
--- `signon::finish` meets its contract: refused, or the callback's outcome on the table after the clock. Assumes nothing.
+-- Refused, or the callback's outcome on the table after the clock. Assumes nothing.
 use borrow.Author.Needs.{needs}
 use Rattle.signon.proofs.Laws.{finish-refused, finish-lawful, finish-room, finish-time, finish-started, finish-done}
 use Rattle.signon.proofs.finish.Statement.{statement}
 use Rattle.signon.proofs.finish.Tie as tie
-
-returns : tie.Need-returns
-returns c = search finish-refused
 
 tick-requires : tie.Need-tick-requires
 tick-requires c κs = (search finish-lawful, search finish-time)
@@ -13,19 +10,8 @@ tick-requires c κs = (search finish-lawful, search finish-time)
 finish-requires : tie.Need-finish-requires
 finish-requires c κs = (search finish-started, search finish-room)
 
-returns-2 : tie.Need-returns-2
-returns-2 c = search finish-done
-
 pub finish-spec : {M : Type 1} → statement M
 finish-spec =
     tie.close
-    (tie.spec
-    (λ c κs. search needs)
-    (λ c κs. search needs)
-    (λ c. search needs)
-    returns
-    tick-requires
-    finish-requires
-    (λ c. search needs)
-    (λ c. search needs)
-    returns-2)
+    (tie.spec (λ c κs. search needs) (λ c κs. search needs) (λ c. search needs) (λ c. search finish-refused) tick-requires finish-requires
+    (λ c. search needs) (λ c. search needs) (λ c. search finish-done))

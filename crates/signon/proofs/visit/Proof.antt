@@ -1,18 +1,12 @@
--- `signon::visit` meets its contract: refused, or what the visit tells, or that there is none. Assumes nothing.
+-- Refused, or what the visit tells, or that there is none. Assumes nothing.
 use borrow.Author.Needs.{needs}
 use Rattle.visit.proofs.Laws.{visit-refused, visit-told}
 use Rattle.signon.proofs.Laws.{visit-fine, visit-room, visit-drawn, visit-time}
 use Rattle.signon.proofs.visit.Statement.{statement}
 use Rattle.signon.proofs.visit.Tie as tie
 
-returns : tie.Need-returns
-returns c = search visit-refused
-
 tell-requires : tie.Need-tell-requires
 tell-requires c κs = (search visit-fine, search visit-time, search visit-drawn, search visit-room)
 
-returns-2 : tie.Need-returns-2
-returns-2 c = search visit-told
-
 pub visit-spec : {M : Type 1} → statement M
-visit-spec = tie.close (tie.spec (λ c κs. search needs) returns tell-requires (λ c. search needs) returns-2)
+visit-spec = tie.close (tie.spec (λ c κs. search needs) (λ c. search visit-refused) tell-requires (λ c. search needs) (λ c. search visit-told))

@@ -53,38 +53,10 @@ returns-6 : tie.Need-returns-6
 unfolding slot
 returns-6 c = search (needs, place-wrote)
 
-slice-write-out : tie.Need-slice-write-out
-slice-write-out c = search (needs, plain-room)
-
-add-result : tie.Need-add-result
-add-result c = search (needs, plain-room)
-
-returns-7 : tie.Need-returns-7
-returns-7 c = search (needs, plain-wrote)
-
 pub put-slot-spec : {M : Type 1} → statement M
 put-slot-spec =
     tie.close
-    (tie.spec
-    put-decimal-requires
-    (λ c. search needs)
-    returns
-    put-bytes-requires
-    (λ c. search needs)
-    returns-2
-    put-bytes-requires-2
-    (λ c. search needs)
-    returns-3
-    put-bytes-requires-3
-    (λ c. search needs)
-    returns-4
-    put-escaped-requires
-    (λ c. search needs)
-    returns-5
-    put-escaped-requires-2
-    (λ c. search needs)
-    returns-6
-    slice-write-out
-    add-result
-    (λ c. search needs)
-    returns-7)
+    (tie.spec put-decimal-requires (λ c. search needs) returns put-bytes-requires (λ c. search needs) returns-2 put-bytes-requires-2
+    (λ c. search needs) returns-3 put-bytes-requires-3 (λ c. search needs) returns-4 put-escaped-requires (λ c. search needs) returns-5
+    put-escaped-requires-2 (λ c. search needs) returns-6 (λ c. search (needs, plain-room)) (λ c. search (needs, plain-room)) (λ c. search needs)
+    (λ c. search (needs, plain-wrote)))

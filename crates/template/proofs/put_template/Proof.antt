@@ -29,14 +29,5 @@ returns c = search (needs, fill-done)
 pub put-template-spec : {M : Type 1} → statement M
 put-template-spec =
     tie.close
-    (tie.spec
-    Inv-loop
-    μ-loop
-    loop-holds
-    (λ c. search needs)
-    put-slot-requires
-    (λ c. search needs)
-    (λ c. search needs)
-    loop-again
-    (λ c. search needs)
+    (tie.spec Inv-loop μ-loop loop-holds (λ c. search needs) put-slot-requires (λ c. search needs) (λ c. search needs) loop-again (λ c. search needs)
     returns)

@@ -1,4 +1,4 @@
--- `utf8::begin` meets its contract: each test is a rung of the definition. Assumes nothing.
+-- Each test is a rung of the definition. Assumes nothing.
 use Rattle.utf8.specs.Machine.{begun}
 use Rattle.utf8.proofs.Laws.{rung-yes, rung-no}
 use Rattle.utf8.proofs.begin.Statement.{statement}

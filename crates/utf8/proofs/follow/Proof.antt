@@ -1,4 +1,4 @@
--- `utf8::follow` meets its contract: the state before says which byte was due. Assumes nothing.
+-- The state before says which byte was due. Assumes nothing.
 use borrow.Author.Needs.{needs}
 use Rattle.utf8.proofs.Laws.{follow-first, follow-tail}
 use Rattle.utf8.proofs.follow.Statement.{statement}
@@ -7,12 +7,5 @@ use Rattle.utf8.proofs.follow.Tie as tie
 pub follow-spec : {M : Type 1} → statement M
 follow-spec =
     tie.close
-    (tie.spec
-    (λ c. search needs)
-    (λ c κs. search needs)
-    (λ c. search needs)
-    (λ c κs. search needs)
-    (λ c. search needs)
-    (λ c. search follow-first)
-    (λ c. search follow-tail)
-    (λ c. search needs))
+    (tie.spec (λ c. search needs) (λ c κs. search needs) (λ c. search needs) (λ c κs. search needs) (λ c. search needs) (λ c. search follow-first)
+    (λ c. search follow-tail) (λ c. search needs))

@@ -6,4 +6,5 @@ use Rattle.xml.proofs.put_failure.Tie as tie
 
 pub put-failure-spec : {M : Type 1} → statement M
 put-failure-spec =
-    tie.close (tie.spec (λ c. search needs) (λ c κs. search (needs, failure-room)) (λ c. search needs) (λ c. search (needs, failure-wrote)))
+    tie.close
+    (tie.spec (λ c. search needs) (λ c κs. search (needs, failure-room)) (λ c. search needs) (λ c. search (needs, failure-wrote)))

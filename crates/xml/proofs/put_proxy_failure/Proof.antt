@@ -6,4 +6,5 @@ use Rattle.xml.proofs.put_proxy_failure.Tie as tie
 
 pub put-proxy-failure-spec : {M : Type 1} → statement M
 put-proxy-failure-spec =
-    tie.close (tie.spec (λ c. search needs) (λ c κs. search (needs, refusal-room)) (λ c. search needs) (λ c. search (needs, refusal-wrote)))
+    tie.close
+    (tie.spec (λ c. search needs) (λ c κs. search (needs, refusal-room)) (λ c. search needs) (λ c. search (needs, refusal-wrote)))

@@ -4,19 +4,8 @@ use Rattle.xml.proofs.Texts.{word-room, word-wrote}
 use Rattle.xml.proofs.put_word.Statement.{statement}
 use Rattle.xml.proofs.put_word.Tie as tie
 
-put-template-requires : tie.Need-put-template-requires
-put-template-requires c κs = search (needs, word-room)
-
-returns : tie.Need-returns
-returns c = search (needs, word-wrote)
-
 pub put-word-spec : {M : Type 1} → statement M
 put-word-spec =
     tie.close
-    (tie.spec
-    (λ c. search needs)
-    (λ c. search needs)
-    (λ c. search needs)
-    put-template-requires
-    (λ c. search needs)
-    returns)
+    (tie.spec (λ c. search needs) (λ c. search needs) (λ c. search needs) (λ c κs. search (needs, word-room)) (λ c. search needs)
+    (λ c. search (needs, word-wrote)))

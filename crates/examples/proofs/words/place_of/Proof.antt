@@ -16,13 +16,5 @@ abbrev μ-loop : tie.MeasureT-loop
 pub place-of-spec : {M : Type 1} → statement M
 place-of-spec =
     tie.close
-    (tie.spec
-    Inv-loop
-    μ-loop
-    (λ c. search needs)
-    (λ c. search needs)
-    (λ c. (omega arith, counted _ _ (omega arith)))
-    (λ c. search needs)
-    (λ c. search needs)
-    (λ c. search needs)
-    (λ c. (omega arith, counted _ _ (omega arith))))
+    (tie.spec Inv-loop μ-loop (λ c. search needs) (λ c. search needs) (λ c. (omega arith, counted _ _ (omega arith))) (λ c. search needs)
+    (λ c. search needs) (λ c. search needs) (λ c. (omega arith, counted _ _ (omega arith))))

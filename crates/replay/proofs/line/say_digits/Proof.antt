@@ -17,12 +17,5 @@ digits-fit digits bytes n h = record { fits = omega (arith, length-hex bytes) }
 pub say-digits-spec : {M : Type 1} → statement M
 say-digits-spec =
     tie.close
-    (tie.spec
-    (λ c. search needs)
-    (λ c κs. search (needs, digits-fit))
-    (λ c. search needs)
-    (λ c κs. search needs)
-    (λ c. search needs)
-    (λ c. search needs)
-    (λ c κs. search needs)
-    (λ c. search needs))
+    (tie.spec (λ c. search needs) (λ c κs. search (needs, digits-fit)) (λ c. search needs) (λ c κs. search needs) (λ c. search needs)
+    (λ c. search needs) (λ c κs. search needs) (λ c. search needs))

@@ -1,2 +1,0 @@
--- What the contracts of accepted credentials are said in.
-pub mod Standings

@@ -1,4 +1,0 @@
--- Laws of edits slot by slot, and of what is issued.
-pub mod Slots
-pub mod Issues
-pub mod Formats

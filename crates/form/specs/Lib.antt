@@ -1,0 +1,2 @@
+-- What a refusal of the form reader answers.
+pub mod Refused

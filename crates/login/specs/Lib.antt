@@ -1,2 +1,0 @@
--- What the contracts of login, GET, are said in.
-pub mod Ways

@@ -1,0 +1,138 @@
+-- Login, POST: the login ticket spent, the credentials judged, and what was done is the step. Assumes nothing.
+use mathlib.Core.Path.{_≡_, sym, ap, _∙_}
+use mathlib.Core.Bool.{Bool, true, false, _||_, not}
+use mathlib.Core.List.{List, [], _∷_}
+use Prim.Native.Nat.{ℕ, _≤_}
+use native.Mathlib.Omega.{arith}
+use borrow.Author.Tests.{ne-eqb}
+use lib.Dec.{eqb}
+use lib.ListN.{length, take}
+use Rattle.protocol.specs.Bytes.{isEmpty, same, among}
+use Rattle.protocol.specs.Table.{decodeTable}
+use Rattle.protocol.specs.Request.{valueMost, Malformed, posted}
+use Rattle.protocol.specs.Answers.{ErrorPage}
+use Rattle.protocol.specs.Steps.{Brought, Step, remove, slotNamed, formStep, unknownService, accepted, admissionOf, entered, credentials, loginPost}
+use Rattle.protocol.specs.Written.{Wrote}
+use Rattle.protocol.specs.Held.{Fine, Holds, Lent, Said, Done, Did}
+use Rattle.protocol.specs.Calls.{broughtBy}
+use Rattle.protocol.specs.declared.Admission.{Admission}
+use Rattle.protocol.specs.declared.Admission.the-variants.{Unknown, Again, Accepted}
+use Rattle.protocol.specs.declared.Outcome.{Outcome}
+use Rattle.protocol.proofs.Searches.{empty}
+use Rattle.protocol.proofs.Told.{only-said, did-as, done-did}
+use Rattle.protocol.proofs.Held.{holds-self}
+use Rattle.text.proofs.Splice.{read-back}
+use Rattle.table_find.specs.declared.Found.{Found}
+use Rattle.table_find.specs.declared.Found.the-variants.{At, Nothing}
+use Rattle.table_find.specs.Searches.{foundAt}
+use Rattle.table_find.proofs.Laws.{found-is, found-none}
+use Rattle.request.specs.Value.{valueAt, Readable}
+use Rattle.request.specs.Spelled.{spelledPosted, PostedFits, PostedIn}
+use Rattle.request.specs.declared.Value.{Value}
+use Rattle.request.specs.declared.LoginBody.{LoginBody}
+use Rattle.request.specs.declared.LoginBody.the-variants as body-of
+use Rattle.session.specs.Signing.{Signing}
+use Rattle.login_post.specs.Given.{Values, given, Spent, Supplied}
+
+-- `spend`
+module _ (b lt : List ℕ) {f : Found} (e : f ≡ foundAt (slotNamed 1 lt (decodeTable b))) where
+  pub spent-found : {k : ℕ} {b′ : List ℕ} → f ≡ At k → Holds b′ (remove k (decodeTable b)) → Spent lt b b′ k
+  spent-found z h = record { slot = found-is (slotNamed 1 lt (decodeTable b)) e z; table = h }
+
+  pub spent-none : f ≡ Nothing → Fine b → Spent lt b b 0
+  spent-none z h = record { slot = sym (found-none (slotNamed 1 lt (decodeTable b)) e z); table = holds-self b h }
+
+-- `spend_given`: its text as it was decoded
+pub spent-given : (body d e b b′ : List ℕ) (l : Value) (n k : ℕ) → Wrote d 0 e n (valueAt true body l) → Spent (take n e) b b′ k → Spent (valueAt true body l) b b′ k
+spent-given body d e b b′ l n k w t = rw (read-back d e (valueAt true body l) n w) at t
+
+-- `admission_of`
+module _ (register service : List ℕ) (k : ℕ) (absent verdict : Bool) {x : Bool} (e : x ≡ unknownService service (broughtBy register [] [] verdict .register)) where
+  pub admission-unknown : x ≡ true → Unknown ≡ admissionOf k service absent (broughtBy register [] [] verdict)
+  unfolding admissionOf
+  admission-unknown z = rw (← e, z)
+
+  pub admission-again : x ≡ false → eqb k 0 || absent || not verdict ≡ true → Again ≡ admissionOf k service absent (broughtBy register [] [] verdict)
+  unfolding admissionOf
+  admission-again z h = rw (← e, z, h)
+
+  pub admission-accepted : x ≡ false → eqb k 0 || absent || not verdict ≡ false → Accepted ≡ admissionOf k service absent (broughtBy register [] [] verdict)
+  unfolding admissionOf
+  admission-accepted z h = rw (← e, z, h)
+
+-- `enter`: what is done for each
+module _ (b register service user cookie random : List ℕ) (k : ℕ) (absent verdict : Bool) {w : Admission} (e : w ≡ admissionOf k service absent (broughtBy register [] [] verdict)) where
+  abbrev brought : Brought
+  brought = broughtBy register cookie random verdict
+
+  abbrev done : Admission → Step
+  done a = entered a user service brought (decodeTable b)
+
+  enters : {v : Admission} → w ≡ v → done v ≡ done (admissionOf k service absent brought)
+  unfolding admissionOf
+  enters z = ap done (sym z ∙ e)
+
+  module _ {o o′ c : List ℕ} {r : Outcome} where
+    pub enter-unknown : w ≡ Unknown → Fine b → Said (ErrorPage 403) r o o′ → Did (done (admissionOf k service absent brought)) r b o o′ c c
+    unfolding entered
+    enter-unknown z f s = did-as (enters z) (done-did c (only-said f s))
+
+    pub enter-again : {b′ : List ℕ} → w ≡ Again → Done (formStep 401 service random (decodeTable b)) r b′ o o′ → Did (done (admissionOf k service absent brought)) r b′ o o′ c c
+    unfolding entered
+    enter-again z d = did-as (enters z) (done-did c d)
+
+    pub enter-accepted : {b′ c′ : List ℕ} → w ≡ Accepted → Did (accepted (slotNamed 2 cookie (decodeTable b)) user service random (decodeTable b)) r b′ o o′ c c′
+        → Did (done (admissionOf k service absent brought)) r b′ o o′ c c′
+    unfolding entered
+    enter-accepted z d = did-as (enters z) d
+
+-- `decode_and_enter`: service and username as they were decoded
+module _ (body x x′ y y′ : List ℕ) (s u : Value) (m n : ℕ) (i : Wrote x 0 x′ m (valueAt true body s)) (j : Wrote y 0 y′ n (valueAt true body u)) where
+  pub enter-ready : (b register random o c : List ℕ) → Supplied b register random o → 64 ≤ length c → Readable true 200 body s → Readable true 64 body u → Signing b (take n y′) (take m x′) random o c
+  enter-ready b register random o c l r h k =
+      record {
+        fine = l .fine;
+        name = rw (read-back y y′ (valueAt true body u) n j) (omega (arith, k .long, k .fits));
+        short = rw (read-back x x′ (valueAt true body s) m i) (omega (arith, h .long, h .fits));
+        drawn = l .drawn;
+        out = l .out;
+        cookie = r;
+      }
+
+  pub entered-did : (b register cookie random : List ℕ) (k : ℕ) (absent verdict : Bool) {b′ o o′ c c′ : List ℕ} {r : Outcome}
+      → Did (entered (admissionOf k (take m x′) absent (broughtBy register cookie random verdict)) (take n y′) (take m x′) (broughtBy register cookie random verdict) (decodeTable b)) r b′ o o′ c c′
+      → Did (entered (admissionOf k (valueAt true body s) absent (broughtBy register cookie random verdict)) (valueAt true body u) (valueAt true body s) (broughtBy register cookie random verdict) (decodeTable b)) r b′ o o′ c c′
+  entered-did b register cookie random k absent verdict {b′} {o} {o′} {c} {c′} {r} d =
+      rw (read-back x x′ (valueAt true body s) m i, read-back y y′ (valueAt true body u) n j) at d
+
+-- `post_given`: on the table without the login ticket, and absent by their lengths
+pub given-did : (body : List ℕ) (s u p l : Value) (b b₁ register cookie random : List ℕ) (k : ℕ) (verdict : Bool) {b₂ o o′ c c′ : List ℕ} {r : Outcome} → Values body s u p l → Spent (valueAt true body l) b b₁ k
+    → Did (entered (admissionOf k (valueAt true body s) (eqb (u .length) 0 || eqb (p .length) 0) (broughtBy register cookie random verdict)) (valueAt true body u) (valueAt true body s) (broughtBy register cookie random verdict) (decodeTable b₁)) r b₂ o o′ c c′
+    → Did (loginPost (given body s u p l) (broughtBy register cookie random verdict) (decodeTable b)) r b₂ o o′ c c′
+unfolding loginPost credentials
+given-did body s u p l b b₁ register cookie random k verdict h t d =
+    rw
+    (empty (valueAt true body u) (u .length) (h .username .long), empty (valueAt true body p) (p .length) (h .password .long), ← t .slot, ← t .table .is)
+    d
+
+-- `post`: by what was read
+module _ (body : List ℕ) (x : LoginBody) (f : PostedIn body x) where
+  module _ {s u p l : Value} (e : x ≡ body-of.Given s u p l) where
+    pub values-in : Values body s u p l
+    unfolding valueMost among same
+    values-in =
+        let v : PostedFits body (body-of.Given s u p l) = rw e at (f .fits) in
+        record { service = v .0; username = v .1; password = v .2; lt = v .3 }
+
+    pub as-given : (b register cookie random : List ℕ) (verdict : Bool) {b′ o o′ c c′ : List ℕ} {r : Outcome} → Did (loginPost (given body s u p l) (broughtBy register cookie random verdict) (decodeTable b)) r b′ o o′ c c′
+        → Did (loginPost (posted body) (broughtBy register cookie random verdict) (decodeTable b)) r b′ o o′ c c′
+    as-given b register cookie random verdict {b′} {o} {o′} {c} {c′} {r} d =
+        let m : given body s u p l ≡ posted body = sym (ap (spelledPosted body) e) ∙ f .spells in
+        rw m at d
+
+  pub as-malformed : x ≡ body-of.Malformed → (b register cookie random : List ℕ) (verdict : Bool) {o o′ c : List ℕ} {r : Outcome} → Lent b register random o → Said (ErrorPage 400) r o o′
+      → Did (loginPost (posted body) (broughtBy register cookie random verdict) (decodeTable b)) r b o o′ c c
+  unfolding loginPost
+  as-malformed e b register cookie random verdict {c = c} h d =
+      let m : Malformed ≡ posted body = sym (ap (spelledPosted body) e) ∙ f .spells in
+      rw (sym m) (done-did c (only-said (h .lawful .fine) d))

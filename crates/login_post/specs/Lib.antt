@@ -1,0 +1,2 @@
+-- What the contracts of login, POST, are said in.
+pub mod Given

@@ -1,2 +1,0 @@
--- The laws of a reader's steps.
-pub mod Laws

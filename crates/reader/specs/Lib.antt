@@ -1,2 +1,0 @@
--- What a reader's step answers.
-pub mod Step

@@ -1,0 +1,11 @@
+-- Each test is a rung of the list. Assumes nothing.
+use borrow.Author.Needs.{needs}
+use Rattle.refusal.proofs.Laws.{rung-no, rung-yes, most-no, most-yes}
+use Rattle.refusal.proofs.after_bytes.Statement.{statement}
+use Rattle.refusal.proofs.after_bytes.Tie as tie
+
+pub after-bytes-spec : {M : Type 1} → statement M
+after-bytes-spec =
+    tie.close
+    (tie.spec (λ c κs. search needs) (λ c κs. search needs) (λ c. search (rung-yes, most-yes) depth 12) (λ c. search (rung-yes, most-no) depth 12)
+    (λ c. search (rung-no, rung-yes) depth 12) (λ c. search (rung-no, rung-yes) depth 12))

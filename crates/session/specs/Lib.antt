@@ -1,0 +1,2 @@
+-- Words for the contracts of accepted credentials.
+pub mod Signing

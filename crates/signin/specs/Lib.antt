@@ -1,2 +1,0 @@
--- What the contracts of login, POST, are said in.
-pub mod Entries

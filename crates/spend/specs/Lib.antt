@@ -1,2 +1,0 @@
--- What is done of a presented ticket.
-pub mod Spends

@@ -1,0 +1,19 @@
+-- Limits first; within them the bytes decide.
+use Rattle.block.proofs.Bytewise.{Bytes}
+use Rattle.table_rules.proofs.Laws.{limits-short, record-wrong, record-right}
+use borrow.Author.Needs.{needs}
+use Rattle.table_rules.proofs.record_right.Statement.{statement}
+use Rattle.table_rules.proofs.record_right.Tie as tie
+
+-- the block holds bytes
+bytes : (c : tie.After-shared-slice-known) → Bytes (c .before .args .block .now)
+bytes c = record { each = λ i. c .shared-slice-known .given i .fits }
+
+text-right-requires : tie.Need-text-right-requires
+text-right-requires c κs = (search needs, search limits-short)
+
+pub record-right-spec : {M : Type 1} → statement M
+record-right-spec =
+    tie.close
+    (tie.spec (λ c κs. search needs) (λ c κs. search needs) (λ c κs. search needs) (λ c κs. search needs) (λ c. search needs) text-right-requires
+    (λ c κs. search needs) (λ c κs. search needs) (λ c κs. search needs) (λ c. search (record-right, bytes)) (λ c. search record-wrong))

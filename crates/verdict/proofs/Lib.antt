@@ -1,2 +1,0 @@
--- Laws of the verdict.
-pub mod Laws

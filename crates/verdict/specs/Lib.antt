@@ -1,2 +1,0 @@
--- What is to be said of a ticket, and which ticket can be spent.
-pub mod Verdicts
