@@ -21,11 +21,12 @@ WORKERS = 5
 
 class Hand(threading.Thread):
     """A user at work while the server is killed: signs in, fetches tickets, shows each of them several times, signs off. Whatever an answer has
-    told him must hold from then on, over every restart; what does not goes to `wrong`."""
+    told him must hold from then on, over every restart; what does not goes to `wrong`. While `armed` is set, the server is killed the moment that
+    an answer is here: what it told must be on the disk by then."""
 
-    def __init__(self, world, working):
+    def __init__(self, world, working, armed):
         super().__init__(daemon=True)
-        self.browser, self.working = Browser(world), working
+        self.browser, self.working, self.armed = Browser(world), working, armed
         self.wrong, self.accepted, self.sessions, self.cut = [], 0, 0, 0
 
     def ask(self, method, *words, **fields):
@@ -34,6 +35,9 @@ class Hand(threading.Thread):
         while self.working.is_set():
             try:
                 answer = getattr(self.browser, method)(*words, **fields)
+                if self.armed.is_set():
+                    self.armed.clear()
+                    self.browser.world.process.kill()
                 if answer.status not in (429, 503):
                     return answer, tried
             except (OSError, http.client.HTTPException):
@@ -85,16 +89,20 @@ class Kills(unittest.TestCase):
     def test_kills_of_front_and_core_lose_nothing(self):
         world = World([(GATE, None)]).start()
         self.addCleanup(world.close)
-        working = threading.Event()
+        working, armed = threading.Event(), threading.Event()
         working.set()
-        hands = [Hand(world, working) for _ in range(WORKERS)]
+        hands = [Hand(world, working, armed) for _ in range(WORKERS)]
         for hand in hands:
             hand.start()
         chance = random.Random(int(os.environ.get('SEED', '1')))
         for kill in range(KILLS):
             time.sleep(chance.uniform(0.05, 1))
-            if kill % 2:
+            if kill % 4 == 1:
                 world.stop(signal.SIGKILL)
+                world.start()
+            elif kill % 4 == 3:
+                armed.set()
+                world.process.wait(60)
                 world.start()
             else:
                 core = world.core()

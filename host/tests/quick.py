@@ -186,7 +186,9 @@ class Proxying(Ranch):
                 iou, _ = self.grant(service, callback)
                 self.assertIsNone(iou)
         self.assertEqual(self.stranger.got, [])
-        self.assertFalse([path for path in self.panel.got if path.startswith('/callback') and 'away' in path])
+        away = [path.split('?')[1] for path in self.panel.got if path.startswith('/away?')]
+        self.assertEqual(len(away), 1)
+        self.assertNotIn(f'/callback?{away[0]}', self.panel.got)
 
 
 class SignOff(Ranch):
@@ -285,7 +287,7 @@ class Http(Ranch):
 
     def test_rubbish_ends_its_own_connection_only(self):
         for rubbish in b'\0' * 100 + b'\r\n\r\n', b'GET / HTTP/9.9\r\n\r\n', b'GET  \r\n\r\n', b'POST /cas/login HTTP/1.1\r\nContent-Length: -1\r\n\r\n':
-            self.assertTrue(self.raw(rubbish).startswith((b'HTTP/1.1 400', b'')))
+            self.assertIn(self.raw(rubbish)[:12], (b'HTTP/1.1 400', b''))
         with socket.create_connection(('127.0.0.1', self.world.port)) as plain:
             plain.sendall(b'GET /cas/login HTTP/1.1\r\n\r\n')
         self.assertEqual(self.browser.get('validate').body, 'no\n')
