@@ -114,6 +114,18 @@ class InABrowser(unittest.TestCase):
             time.sleep(0.1)
         self.fail(f'the browser is at {chromium.at()} and not at {start}')
 
+    def wait_words(self, chromium, words):
+        """A click does not wait for the page that it leads to: until it is there, its words are absent or the former page's."""
+        for _ in range(600):
+            try:
+                told = chromium.text('#words')
+            except AssertionError as changing:
+                told = str(changing)
+            if words in told:
+                return
+            time.sleep(0.1)
+        self.fail(f'the browser says {told} and not {words}')
+
     def test_signs_in_sees_the_words_and_signs_out(self):
         chromium = self.browser(**{'intl.accept_languages': 'en'})
         chromium.open(self.login)
@@ -123,7 +135,7 @@ class InABrowser(unittest.TestCase):
         self.assertEqual(chromium.script('return document.querySelector("input[type=password]").autocomplete'), 'current-password')
         self.assertEqual(chromium.script('return getComputedStyle(document.querySelector("body > p")).display'), 'none')
         self.fill(chromium, 'ann', 'wrong')
-        self.assertIn('User name or password is wrong', chromium.text('#words'))
+        self.wait_words(chromium, 'User name or password is wrong')
         chromium.picture('wrong')
         self.fill(chromium, 'Muñoz', PASSWORDS['Muñoz'])
         self.wait_at(chromium, f'{self.gate}?ticket=ST-')
@@ -148,7 +160,7 @@ class InABrowser(unittest.TestCase):
         chromium.picture('plain-spanish')
         self.assertIn('El primer campo es para su usuario', chromium.text('#words'))
         self.fill(chromium, 'ann', 'wrong')
-        self.assertIn('no es correcto', chromium.text('#words'))
+        self.wait_words(chromium, 'no es correcto')
         self.fill(chromium, 'ann', PASSWORDS['ann'])
         self.wait_at(chromium, f'{self.gate}?ticket=ST-')
 
