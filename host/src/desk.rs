@@ -182,12 +182,15 @@ impl Desk {
         Ok(())
     }
 
-    /// Lays told blocks over the table.
+    /// Lays told blocks over the table, all of them or none.
     fn lay(&mut self, changed: &[Changed]) -> Result<(), Ended> {
+        let blocks = self.table.len() / BLOCK;
+        if changed.iter().any(|block| block.number as usize >= blocks) {
+            return Err(Ended("it tells a block that is not there".into()));
+        }
         for block in changed {
             let start = block.number as usize * BLOCK;
-            let place = self.table.get_mut(start..start + BLOCK).ok_or_else(|| Ended("it tells a block that is not there".into()))?;
-            place.copy_from_slice(&block.bytes);
+            self.table[start..start + BLOCK].copy_from_slice(&block.bytes);
             self.unstored.insert(block.number);
         }
         Ok(())

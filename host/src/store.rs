@@ -1,5 +1,5 @@
-//! The table's blocks in a SQLite database. What a commit has stored is there after a power cut, and a second server on the same database is
-//! refused: the lock is taken at the start and kept.
+//! The table's blocks in a SQLite database. A commit returns when SQLite has synced it, and a second server on the same database is refused: the
+//! lock is taken at the start and kept.
 
 use crate::frames::BLOCK;
 use rusqlite::{params, Connection, ErrorCode};
@@ -51,7 +51,7 @@ impl Store {
         rows.collect()
     }
 
-    /// Stores blocks together or not at all. When this returns they are on the disk.
+    /// Stores blocks together or not at all. When this returns they are synced.
     pub fn save<'a>(&mut self, blocks: impl Iterator<Item = (u32, &'a [u8])>) -> Result<(), String> {
         self.saved(blocks).map_err(|error| format!("{}: {error}", self.path.display()))
     }
