@@ -10,15 +10,12 @@ ghost use mathlib.Core.Bool.{true};
 ghost use mathlib.Core.List.{[]};
 ghost use Prim.Native.Nat.{_≤_};
 ghost use lib.ListN.{length};
-ghost use Rattle.protocol.specs.Table.{decodeTable, recAt};
+ghost use Rattle.protocol.specs.Table.{decodeTable};
 ghost use Rattle.protocol.specs.Register.{registerLawful};
-ghost use Rattle.protocol.specs.Steps.{step, failed, remove, ticketSlot, rulingOf, grants, grantOrTell, acceptTicket, ruled, presented};
-ghost use Rattle.protocol.specs.Held.{Fine, In, Said, Done, bringing, Within, Spendable};
+ghost use Rattle.protocol.specs.Steps.{failed, grants, grantOrTell, acceptTicket};
+ghost use Rattle.protocol.specs.Held.{Fine, In, Said, Does, bringing, Within, Spendable};
 ghost use Rattle.xml.specs.Codes.{codeOf};
-ghost use Rattle.present.specs.Brings.{Brings};
-
-// The deepest grant.
-const DEEPEST: u8 = 4;
+ghost use Rattle.present.specs.Brings.{Brings, burnt, spent, shown};
 
 // A failure as a validator says it: `no`, or XML.
 pub fn fail(validator: Validator, code: Code, out: &mut [u8]) -> Outcome
@@ -39,7 +36,10 @@ fn may_grant(table: &[u8], register: &[u8], parent: usize, service: &[u8], url: 
 {
     let callback = register::callback_of(register, service);
     let depth = table::depth_at(table, parent);
-    (0 < url.len()) & text::same(url, callback) & (depth < DEEPEST) & table_find::has_room(table, 1)
+    (0 < url.len())
+        & text::same(url, callback)
+        & (depth < ticket::DEEPEST)
+        & table_find::has_room(table, 1)
 }
 
 // A waiting grant and its callback, or success without a grant.
@@ -55,7 +55,8 @@ fn grant_or_tell(
     out: &mut [u8],
 ) -> Outcome
     requires { ⌜ (Brings (now table) (now register) (now url) (now random) (now out)) × (In session (now table)) × (Within parent (now table)) ⌝ }
-    ensures { λ r. ⌜ Done (grantOrTell session parent mark (now (service .entry)) (now (url .entry)) (bringing (now (register .entry)) (now (random .entry))) (decodeTable (now (table .entry)))) r (now (table .exit)) (now (out .entry)) (now (out .exit)) ⌝ }
+    ensures { λ r. ⌜ Does (grantOrTell session parent mark (now (service .entry)) (now (url .entry))
+        (bringing (now (register .entry)) (now (random .entry)))) r (now (table .entry)) (now (table .exit)) (now (out .entry)) (now (out .exit)) ⌝ }
 {
     if may_grant(table, register, parent as usize, service, url) {
         let depth = table::depth_at(table, parent as usize) + 1;
@@ -78,7 +79,8 @@ fn accept(
     out: &mut [u8],
 ) -> Outcome
     requires { ⌜ (Brings (now table) (now register) (now url) (now random) (now out)) × (In session (now table)) × (Within parent (now table)) ⌝ }
-    ensures { λ r. ⌜ Done (acceptTicket validator session parent mark (now (service .entry)) (now (url .entry)) (bringing (now (register .entry)) (now (random .entry))) (decodeTable (now (table .entry)))) r (now (table .exit)) (now (out .entry)) (now (out .exit)) ⌝ }
+    ensures { λ r. ⌜ Does (acceptTicket validator session parent mark (now (service .entry)) (now (url .entry))
+        (bringing (now (register .entry)) (now (random .entry)))) r (now (table .entry)) (now (table .exit)) (now (out .entry)) (now (out .exit)) ⌝ }
 {
     match validator {
         Validator::Plain => reply::say_word(out, true),
@@ -114,7 +116,7 @@ fn accept(
 // A ticket that is not accepted is removed.
 fn burn(table: &mut [u8], slot: usize, validator: Validator, code: Code, out: &mut [u8]) -> Outcome
     requires { ⌜ (Fine (now table)) × (In slot (now table)) × (8192 ≤ length (now out)) ⌝ }
-    ensures { λ r. ⌜ Done (step (remove slot (decodeTable (now (table .entry)))) (failed validator (codeOf code))) r (now (table .exit)) (now (out .entry)) (now (out .exit)) ⌝ }
+    ensures { λ r. ⌜ Does (burnt slot (failed validator (codeOf code))) r (now (table .entry)) (now (table .exit)) (now (out .entry)) (now (out .exit)) ⌝ }
 {
     table::free_record(table, slot);
     fail(validator, code, out)
@@ -133,7 +135,8 @@ fn spend(
     out: &mut [u8],
 ) -> Outcome
     requires { ⌜ (Brings (now table) (now register) (now url) (now random) (now out)) × (Spendable slot (now table)) ⌝ }
-    ensures { λ r. ⌜ Done (ruled (rulingOf validator renew (now (service .entry)) (recAt slot (decodeTable (now (table .entry)) .slots))) validator slot (recAt slot (decodeTable (now (table .entry)) .slots)) (now (service .entry)) (now (url .entry)) (bringing (now (register .entry)) (now (random .entry))) (remove slot (decodeTable (now (table .entry))))) r (now (table .exit)) (now (out .entry)) (now (out .exit)) ⌝ }
+    ensures { λ r. ⌜ Does (spent validator slot renew (now (service .entry)) (now (url .entry))
+        (bringing (now (register .entry)) (now (random .entry)))) r (now (table .entry)) (now (table .exit)) (now (out .entry)) (now (out .exit)) ⌝ }
 {
     match ruling::ruling_of(table, slot, validator, renew, service) {
         Ruling::NoTicket => burn(table, slot, validator, Code::InvalidTicket, out),
@@ -173,7 +176,8 @@ pub fn show(
     out: &mut [u8],
 ) -> Outcome
     requires { ⌜ Brings (now table) (now register) (now url) (now random) (now out) ⌝ }
-    ensures { λ r. ⌜ Done (presented validator (ticketSlot (now (ticket .entry)) (decodeTable (now (table .entry)))) renew (now (service .entry)) (now (url .entry)) (bringing (now (register .entry)) (now (random .entry))) (decodeTable (now (table .entry)))) r (now (table .exit)) (now (out .entry)) (now (out .exit)) ⌝ }
+    ensures { λ r. ⌜ Does (shown validator (now (ticket .entry)) renew (now (service .entry)) (now (url .entry))
+        (bringing (now (register .entry)) (now (random .entry)))) r (now (table .entry)) (now (table .exit)) (now (out .entry)) (now (out .exit)) ⌝ }
 {
     match table_find::find_ticket(table, ticket) {
         Found::At(slot) => spend(

@@ -46,6 +46,10 @@ pub record Holds (b : List ℕ) (t : Table) : Type 0 where
   pub is : decodeTable b ≡ t
   pub fine : Fine b
 
+-- the bytes were b and are b′, and the table that they say was edited so
+abbrev pub Edited : (Table → Table) → List ℕ → List ℕ → Type 0
+Edited edit b b′ = Holds b′ (edit (decodeTable b))
+
 -- k is a slot of the table's bytes
 pub record In (k : ℕ) (b : List ℕ) : Type 0 where
   pub low : 1 ≤ k
@@ -55,12 +59,16 @@ pub record In (k : ℕ) (b : List ℕ) : Type 0 where
 pub record Within (k : ℕ) (b : List ℕ) : Type 0 where
   pub high : 512 * k + 512 ≤ length b
 
+-- the record that the table's bytes say in slot k
+abbrev pub saidAt : ℕ → List ℕ → Rec
+saidAt k b = recAt k (decodeTable b .slots)
+
 -- k is the slot of a live service or proxy ticket
 pub record Spendable (k : ℕ) (b : List ℕ) : Type 0 where
   pub slot : In k b
-  pub least : 3 ≤ recAt k (decodeTable b .slots) .kind
-  pub most : recAt k (decodeTable b .slots) .kind ≤ 4
-  pub lasts : decodeTable b .clock < recAt k (decodeTable b .slots) .expiry
+  pub least : 3 ≤ saidAt k b .kind
+  pub most : saidAt k b .kind ≤ 4
+  pub lasts : decodeTable b .clock < saidAt k b .expiry
 
 -- the table that the bytes say keeps the rules, too
 pub record Lawful (b : List ℕ) : Type 0 where
@@ -116,6 +124,10 @@ pub record Done (s : Step) (r : Outcome) (b o o′ : List ℕ) : Type 0 where
   pub table : Holds b (s .table)
   pub out : o′ ≡ spliced o 0 (replyText (s .reply))
   pub cookie : s .cookie ≡ []
+
+-- such a step of the table that the bytes b say, which are b′ after it
+abbrev pub Does : (Table → Step) → Outcome → List ℕ → List ℕ → List ℕ → List ℕ → Type 0
+Does s r b b′ o o′ = Done (s (decodeTable b)) r b′ o o′
 
 -- a step was done: so is the cookie output, c before and c′ after it
 pub record Did (s : Step) (r : Outcome) (b o o′ c c′ : List ℕ) : Type 0 where

@@ -38,6 +38,43 @@ pub record Rec : Type 0 where
   pub iou : List ℕ
   pub since : ℕ
 
+-- where each field starts
+abbrev pub atKind : ℕ
+atKind = 0
+
+abbrev pub atMark : ℕ
+atMark = 1
+
+abbrev pub atParent : ℕ
+atParent = 2
+
+abbrev pub atSession : ℕ
+atSession = 4
+
+abbrev pub atDepth : ℕ
+atDepth = 6
+
+abbrev pub atSerial : ℕ
+atSerial = 8
+
+abbrev pub atExpiry : ℕ
+atExpiry = 16
+
+abbrev pub atSecret : ℕ
+atSecret = 24
+
+abbrev pub atLength : ℕ
+atLength = 40
+
+abbrev pub atText : ℕ
+atText = 44
+
+abbrev pub atIou : ℕ
+atIou = 256
+
+abbrev pub atSince : ℕ
+atSince = 272
+
 -- a free record is zero
 abbrev pub freeRec : Rec
 freeRec = record { kind = 0; mark = 0; parent = 0; session = 0; depth = 0; serial = 0; expiry = 0; secret = zeros 16; text = []; iou = zeros 16; since = 0 }
@@ -68,17 +105,17 @@ encodeRec r = sealed (recBody r)
 unfoldable pub decodeRec : List ℕ → Rec
 decodeRec b =
     record {
-      kind = getD b 0 0;
-      mark = getD b 1 0;
-      parent = num 2 2 b;
-      session = num 4 2 b;
-      depth = getD b 6 0;
-      serial = num 8 4 b;
-      expiry = num 16 8 b;
-      secret = part 24 16 b;
-      text = part 44 (num 40 2 b) b;
-      iou = part 256 16 b;
-      since = num 272 8 b;
+      kind = getD b atKind 0;
+      mark = getD b atMark 0;
+      parent = num atParent 2 b;
+      session = num atSession 2 b;
+      depth = getD b atDepth 0;
+      serial = num atSerial 4 b;
+      expiry = num atExpiry 8 b;
+      secret = part atSecret 16 b;
+      text = part atText (num atLength 2 b) b;
+      iou = part atIou 16 b;
+      since = num atSince 8 b;
     }
 
 -- a record's ticket text

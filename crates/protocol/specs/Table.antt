@@ -18,6 +18,13 @@ pub record Table : Type 0 where
 abbrev pub tableOf : ℕ → ℕ → List Rec → Table
 tableOf clock next slots = record { clock = clock; next = next; slots = slots }
 
+-- where its clock and its next serial start
+abbrev pub atClock : ℕ
+atClock = 8
+
+abbrev pub atNext : ℕ
+atNext = 16
+
 -- the 508 bytes of block 0
 unfoldable pub headBody : ℕ → ℕ → ℕ → List ℕ
 headBody count clock next = ascii "TKTS" ++ (bytesOf 2 count ++ ((1 ∷ 0 ∷ []) ++ (bytesOf 8 clock ++ (bytesOf 4 next ++ zeros 488))))
@@ -28,7 +35,7 @@ encodeTable t = sealed (headBody (length (t .slots)) (t .clock) (t .next)) ++ jo
 
 -- the table that bytes say
 unfoldable pub decodeTable : List ℕ → Table
-decodeTable b = tableOf (num 8 8 b) (num 16 4 b) (map decodeRec (blocks (length b / 512 - 1) 512 (drop 512 b)))
+decodeTable b = tableOf (num atClock 8 b) (num atNext 4 b) (map decodeRec (blocks (length b / 512 - 1) 512 (drop 512 b)))
 
 -- the record in a slot; in slot 0, and beyond the last, there is none
 abbrev pub recAt : ℕ → List Rec → Rec

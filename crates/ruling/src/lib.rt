@@ -3,9 +3,8 @@ use protocol::Ruling;
 use protocol::Validator;
 ghost use mathlib.Core.Path.{_≡_};
 ghost use mathlib.Core.Bool.{not};
-ghost use Rattle.protocol.specs.Table.{decodeTable, recAt};
 ghost use Rattle.protocol.specs.Steps.{takesProxies, proxyParent, rulingOf};
-ghost use Rattle.protocol.specs.Held.{Fine, In};
+ghost use Rattle.protocol.specs.Held.{Fine, In, saidAt};
 
 // Only proxyValidate takes proxy tickets.
 fn refuses_proxies(validator: Validator) -> bool
@@ -21,7 +20,7 @@ fn refuses_proxies(validator: Validator) -> bool
 // A proxy ticket's proxies start at its parent; a service ticket has none.
 fn proxy_parent(table: &[u8], slot: usize) -> u16
     requires { ⌜ In slot (now table) ⌝ }
-    ensures { λ r. ⌜ r ≡ proxyParent (recAt slot (decodeTable (now (table .entry)) .slots)) ⌝ }
+    ensures { λ r. ⌜ r ≡ proxyParent (saidAt slot (now (table .entry))) ⌝ }
 {
     if table::kind_of(table, slot) == ticket::Proxy::KIND {
         return table::parent_of(table, slot);
@@ -38,7 +37,7 @@ pub fn ruling_of(
     service: &[u8],
 ) -> Ruling
     requires { ⌜ (Fine (now table)) × (In slot (now table)) ⌝ }
-    ensures { λ r. ⌜ r ≡ rulingOf validator renew (now (service .entry)) (recAt slot (decodeTable (now (table .entry)) .slots)) ⌝ }
+    ensures { λ r. ⌜ r ≡ rulingOf validator renew (now (service .entry)) (saidAt slot (now (table .entry))) ⌝ }
 {
     let its_own = text::same(table::text_of(table, slot), service);
     if (table::kind_of(table, slot) == ticket::Proxy::KIND) & refuses_proxies(validator) {

@@ -1,8 +1,7 @@
 // A success told with its proxies: the callbacks from a grant to its parents, newest first, the depth falling by one.
 use protocol::Answer;
 use protocol::Outcome;
-ghost use mathlib.Core.Path.{_≡_};
-ghost use Rattle.protocol.specs.Table.{decodeTable, recAt};
+ghost use Rattle.protocol.specs.Table.{decodeTable};
 ghost use Rattle.protocol.specs.Answers.{proxyLines, proxiesText};
 ghost use Rattle.protocol.specs.Steps.{chainFrom, chainOf, successOf};
 ghost use Rattle.protocol.specs.Written.{Room, Wrote};
@@ -47,7 +46,8 @@ pub fn say_success(
     out: &mut [u8],
 ) -> Outcome
     requires { ⌜ Told (now table) session (now iou) parent (now out) ⌝ }
-    ensures { λ r. ⌜ Said (successOf session mark (now (iou .entry)) parent (decodeTable (now (table .entry)) .slots)) r (now (out .entry)) (now (out .exit)) ⌝ }
+    ensures { λ r. ⌜ Said (successOf session mark (now (iou .entry)) parent (decodeTable (now (table .entry)) .slots))
+        r (now (out .entry)) (now (out .exit)) ⌝ }
 {
     let user = table::text_of(table, session);
     let since = table::since_of(table, session);

@@ -1,24 +1,26 @@
 -- The leaves' laws, in the form in which the code knows its facts. Assumes nothing.
 use mathlib.Core.Path.{_≡_, refl, sym, ap, _∙_}
 use mathlib.Core.List.{List, [], _∷_, _++_, append-assoc}
-use Prim.Native.Nat.{ℕ, _+_, _-_, _*_, _/_, _≤_, _<_}
+use Prim.Native.Nat.{ℕ, zero, suc, _+_, _-_, _*_, _/_, _≤_, _<_}
+use native.Mathlib.Nat.{zero-add}
 use native.Mathlib.Omega.{arith}
+use borrow.Author.Tests.{eq-eqb, ne-eqb}
 use lib.Dec.{lit≤}
-use lib.ListN.{length, take, drop, getD, length-append, length-take, length-drop, length-replicate, drop-of-length-le}
-use lib.Seq.{take-at, drop-at, length-take-le}
+use lib.ListN.{length, take, drop, getD, length-append, length-take, length-drop, length-replicate, drop-of-length-le, List·getD-eq-default}
+use lib.Seq.{drop-cons, take-at, drop-at, length-take-le}
 use Rattle.protocol.specs.Bytes.{part, num, bytesOf, zeros, padTo, spliced}
 use Rattle.protocol.specs.Blocks.{checkFrom, houseCheck, sealed}
 use Rattle.protocol.specs.Records.{Rec, freeRec, recBody, encodeRec, decodeRec}
-use Rattle.protocol.specs.Table.{tableOf, headBody, decodeTable, recAt, lastTime}
+use Rattle.protocol.specs.Table.{tableOf, headBody, decodeTable, recAt, countKind, lastTime}
 use Rattle.protocol.specs.Steps.{put, remove, turned}
-use Rattle.protocol.specs.Held.{Sized, Fits, Fine, Holds, In}
+use Rattle.protocol.specs.Held.{Sized, Fits, Fine, Holds, In, saidAt}
 use Rattle.protocol.proofs.Laws.{length-pad, pad-full, length-bytes, length-body, length-rec, length-head}
 use Rattle.protocol.proofs.Places.{slots-count}
 use Rattle.protocol.proofs.Sound.{free-fits}
 use Rattle.block.proofs.Lay.{laid-first, laid-next, lent, front}
 use Rattle.protocol.proofs.Held.{slot-of, block-of, fits-of, laid-rec, laid-head}
 use Rattle.table.specs.declared.Fields.{Fields}
-use Rattle.table.specs.Parts.{Block, recOf, numbersOf, textsOf}
+use Rattle.table.specs.Parts.{Block, Bit, fieldsOf, recOf, numbersOf, textsOf, turnedBytes}
 
 -- Reading
 
@@ -31,62 +33,36 @@ unfolding decodeTable
 read-next b e = e
 
 pub block-lent : (t : List ℕ) (k : ℕ) → In k t → Block k t (part (512 * k) (512 * k + 512 - 512 * k) t)
+unfolding decodeRec
 block-lent t k i =
     let e : 512 * k + 512 - 512 * k ≡ 512 = omega arith in
-    rw e (record { is = refl; size = length-take-le 512 (drop (512 * k) t) (omega (arith, length-drop (512 * k) t, i .high)) })
+    let s : decodeRec (part (512 * k) 512 t) ≡ saidAt k t = sym (slot-of t k i) in
+    rw e (record {
+      is = refl;
+      size = length-take-le 512 (drop (512 * k) t) (omega (arith, length-drop (512 * k) t, i .high));
+      says = s;
+      kind = ap (λ (r : Rec). r .kind) s;
+      mark = ap (λ (r : Rec). r .mark) s;
+      parent = ap (λ (r : Rec). r .parent) s;
+      session = ap (λ (r : Rec). r .session) s;
+      depth = ap (λ (r : Rec). r .depth) s;
+      serial = ap (λ (r : Rec). r .serial) s;
+      expiry = ap (λ (r : Rec). r .expiry) s;
+      secret = ap (λ (r : Rec). r .secret) s;
+      text = ap (λ (r : Rec). r .text) s;
+      iou = ap (λ (r : Rec). r .iou) s;
+      since = ap (λ (r : Rec). r .since) s;
+    })
 
-module _ (t : List ℕ) (k : ℕ) {b : List ℕ} (i : In k t) (at : Block k t b) where
-  block-says : decodeRec b ≡ recAt k (decodeTable t .slots)
-  block-says = ap decodeRec (at .is) ∙ sym (slot-of t k i)
+-- a number that was read, by what the block says
+pub read : {r v w : ℕ} → r ≡ v → v ≡ w → r ≡ w
+read e f = e ∙ f
 
-  pub read-kind : {r : ℕ} → r ≡ getD b 0 0 → r ≡ recAt k (decodeTable t .slots) .kind
-  unfolding decodeRec
-  read-kind e = e ∙ ap (λ (r : Rec). r .kind) block-says
-
-  pub read-mark : {r : ℕ} → r ≡ getD b 1 0 → r ≡ recAt k (decodeTable t .slots) .mark
-  unfolding decodeRec
-  read-mark e = e ∙ ap (λ (r : Rec). r .mark) block-says
-
-  pub read-parent : {r : ℕ} → r ≡ num 2 2 b → r ≡ recAt k (decodeTable t .slots) .parent
-  unfolding decodeRec
-  read-parent e = e ∙ ap (λ (r : Rec). r .parent) block-says
-
-  pub read-session : {r : ℕ} → r ≡ num 4 2 b → r ≡ recAt k (decodeTable t .slots) .session
-  unfolding decodeRec
-  read-session e = e ∙ ap (λ (r : Rec). r .session) block-says
-
-  pub read-depth : {r : ℕ} → r ≡ getD b 6 0 → r ≡ recAt k (decodeTable t .slots) .depth
-  unfolding decodeRec
-  read-depth e = e ∙ ap (λ (r : Rec). r .depth) block-says
-
-  pub read-serial : {r : ℕ} → r ≡ num 8 4 b → r ≡ recAt k (decodeTable t .slots) .serial
-  unfolding decodeRec
-  read-serial e = e ∙ ap (λ (r : Rec). r .serial) block-says
-
-  pub read-expiry : {r : ℕ} → r ≡ num 16 8 b → r ≡ recAt k (decodeTable t .slots) .expiry
-  unfolding decodeRec
-  read-expiry e = e ∙ ap (λ (r : Rec). r .expiry) block-says
-
-  pub read-since : {r : ℕ} → r ≡ num 272 8 b → r ≡ recAt k (decodeTable t .slots) .since
-  unfolding decodeRec
-  read-since e = e ∙ ap (λ (r : Rec). r .since) block-says
-
-  pub read-secret : part 24 16 b ≡ recAt k (decodeTable t .slots) .secret
-  unfolding decodeRec
-  read-secret = ap (λ (r : Rec). r .secret) block-says
-
-  pub read-iou : part 256 16 b ≡ recAt k (decodeTable t .slots) .iou
-  unfolding decodeRec
-  read-iou = ap (λ (r : Rec). r .iou) block-says
-
-  -- the text of a fine table's record
-  text-said : recAt k (decodeTable t .slots) .text ≡ part 44 (num 40 2 b) b
-  unfolding decodeRec
-  text-said = sym (ap (λ (r : Rec). r .text) block-says)
-
+-- the text of a fine table's record
+module _ (t : List ℕ) (k : ℕ) {b : List ℕ} (at : Block k t b) where
   text-short : {n : ℕ} → Fine t → n ≡ num 40 2 b → n ≤ 200
   text-short f e =
-      let h : length (part 44 (num 40 2 b) b) ≤ 200 = rw text-said at (fits-of t k f .sized .text) in
+      let h : length (part 44 (num 40 2 b) b) ≤ 200 = rw (at .text) (fits-of t k f .sized .text) in
       omega (arith, at .size, length-take (num 40 2 b) (drop 44 b), length-drop 44 b)
 
   pub text-adds : {n : ℕ} → Fine t → n ≡ num 40 2 b → 44 + n < 18446744073709551616
@@ -95,10 +71,68 @@ module _ (t : List ℕ) (k : ℕ) {b : List ℕ} (i : In k t) (at : Block k t b)
   pub text-ends : {n : ℕ} → Fine t → n ≡ num 40 2 b → 44 + n ≤ length b
   text-ends f e = omega (arith, text-short f e, at .size)
 
-  pub read-text : {n : ℕ} → n ≡ num 40 2 b → part 44 (44 + n - 44) b ≡ recAt k (decodeTable t .slots) .text
+  pub read-text : {n : ℕ} → n ≡ num 40 2 b → part 44 (44 + n - 44) b ≡ saidAt k t .text
   read-text {n} e =
       let h : 44 + n - 44 ≡ num 40 2 b = omega arith in
-      rw h (sym text-said)
+      rw h (at .text)
+
+-- the numbers of a block, or none where there is no such slot
+pub fields-none : (t : List ℕ) (k : ℕ) → k ≡ 0 → fieldsOf freeRec ≡ fieldsOf (saidAt k t)
+fields-none t k z = rw z
+
+pub fields-beyond : (t : List ℕ) (k : ℕ) → (k ≡ 0 → ⊥) → length t / 512 ≤ k → fieldsOf freeRec ≡ fieldsOf (saidAt k t)
+fields-beyond t zero z g = absurd (z refl)
+fields-beyond t (suc k) z g = ap fieldsOf (sym (List·getD-eq-default (decodeTable t .slots) freeRec {n = k} (omega (arith, slots-count t))))
+
+pub slot-there : (t : List ℕ) (k : ℕ) → (k ≡ 0 → ⊥) → k < length t / 512 → In k t
+slot-there t zero z g = absurd (z refl)
+slot-there t (suc k) z g = record { low = omega arith; high = omega arith }
+
+pub fields-said : (t : List ℕ) (k : ℕ) {b : List ℕ} {f : Fields} → Block k t b → f ≡ fieldsOf (decodeRec b) → f ≡ fieldsOf (saidAt k t)
+fields-said t k at e = e ∙ ap fieldsOf (at .says)
+
+-- the record of a slot, by its place among the slots
+pub at-slot : (slots : List Rec) (k : ℕ) → 1 ≤ k → recAt k slots ≡ getD slots (k - 1) freeRec
+at-slot slots zero h = absurd (omega arith)
+at-slot slots (suc k) h = let e : suc k - 1 ≡ k = omega arith in rw e
+
+-- the slots from k on begin with the record of k
+pub slots-from : (slots : List Rec) (k : ℕ) → 1 ≤ k → k ≤ length slots → drop (k - 1) slots ≡ recAt k slots ∷ drop (k + 1 - 1) slots
+slots-from slots k l h =
+    let d : k + 1 - 1 ≡ suc (k - 1) = omega arith in
+    rw (at-slot slots k l, d) (drop-cons slots (k - 1) freeRec (omega arith))
+
+-- Counting
+
+pub record Counting (b : List ℕ) (kind c k : ℕ) : Type 0 where
+  pub low : 1 ≤ k
+  pub high : k ≤ length b / 512
+  pub small : c ≤ k
+  pub rest : c + countKind kind (drop (k - 1) (decodeTable b .slots)) ≡ countKind kind (decodeTable b .slots)
+
+module _ (b : List ℕ) (kind : ℕ) where
+  pub count-start : 512 ≤ length b → Counting b kind 0 1
+  count-start h = record { low = lit≤ tt; high = omega arith; small = lit≤ tt; rest = zero-add _ }
+
+  pub count-next : (c k r : ℕ) → Counting b kind c k → k < length b / 512 → Bit kind (recAt k (decodeTable b .slots)) r → Counting b kind (c + r) (k + 1)
+  unfolding countKind
+  count-next c k r l h e =
+      let s = slots-from (decodeTable b .slots) k (l .low) (omega (arith, slots-count b)) in
+      let z = rw (s, sym (e .is)) at (l .rest) in
+      record { low = omega arith; high = omega arith; small = omega (arith, l .small, e .small); rest = omega arith }
+
+  pub count-done : (c k : ℕ) → Counting b kind c k → length b / 512 ≤ k → c ≡ countKind kind (decodeTable b .slots)
+  unfolding countKind
+  count-done c k l h =
+      let d : drop (k - 1) (decodeTable b .slots) ≡ [] = drop-of-length-le (decodeTable b .slots) {i = k - 1} (omega (arith, slots-count b)) in
+      let z = rw d at (l .rest) in
+      omega arith
+
+pub bit-one : (x : Rec) (kind : ℕ) {n : ℕ} → n ≡ x .kind → n ≡ kind → Bit kind x 1
+bit-one x kind e z = record { is = rw (eq-eqb (x .kind) kind (sym e ∙ z)); small = lit≤ tt }
+
+pub bit-zero : (x : Rec) (kind : ℕ) {n : ℕ} → n ≡ x .kind → (n ≡ kind → ⊥) → Bit kind x 0
+bit-zero x kind e z = record { is = rw (ne-eqb (x .kind) kind (λ y. z (e ∙ y))); small = lit≤ tt }
 
 -- Filling a block
 
@@ -202,7 +236,7 @@ pub turn-wrote : (kind e : ℕ) (s : List ℕ) {l1 l2 l3 l4 l5 : List ℕ}
     → l3 ≡ spliced l2 16 (bytesOf 8 e)
     → l2 ≡ spliced l1 1 (0 ∷ [])
     → l1 ≡ spliced s 0 (kind ∷ [])
-    → l5 ≡ sealed (take 508 (spliced (spliced (spliced (spliced s 0 (kind ∷ [])) 1 (0 ∷ [])) 16 (bytesOf 8 e)) 256 (zeros 16)))
+    → l5 ≡ sealed (take 508 (turnedBytes kind e s))
 turn-wrote kind e s e5 e4 e3 e2 e1 = rw (e5, e4, e3, e2, e1)
 
 -- a text in the middle overwritten by one as long
@@ -255,7 +289,7 @@ module _ (r : Rec) (z : Sized r) (kind e : ℕ) where
       ∙ spliced-mid first256 (padTo 16 (r .iou)) (zeros 16) ((bytesOf 8 (r .since) ++ zeros 228) ++ check) 256 length256 n
       ∙ sym (split256 (zeros 16) check)
 
-  pub turn-filled : sealed (take 508 (spliced (spliced (spliced (spliced (encodeRec r) 0 (kind ∷ [])) 1 (0 ∷ [])) 16 (bytesOf 8 e)) 256 (zeros 16))) ≡ encodeRec (lasting (zeros 16))
+  pub turn-filled : sealed (take 508 (turnedBytes kind e (encodeRec r))) ≡ encodeRec (lasting (zeros 16))
   unfolding encodeRec
   turn-filled =
       let n : length (recBody (lasting (zeros 16))) ≡ 508 = length-body (lasting (zeros 16)) (record { secret = z .secret; text = z .text; iou = refl }) in
@@ -288,12 +322,12 @@ lent-head t y n c x f h g m e =
     let d : y ≡ sealed (headBody (length (decodeTable t .slots)) c x) = rw k at e in
     laid-head t (y ++ drop 512 t) c x f h g (q ∙ ap (spliced t 0) d)
 
-pub lent-turn : (t y : List ℕ) (kind k s e : ℕ) → Fine t → In k t → s ≡ recAt k (decodeTable t .slots) .session → e ≡ recAt s (decodeTable t .slots) .expiry
-    → y ≡ sealed (take 508 (spliced (spliced (spliced (spliced (part (512 * k) (512 * k + 512 - 512 * k) t) 0 (kind ∷ [])) 1 (0 ∷ [])) 16 (bytesOf 8 e)) 256 (zeros 16)))
-    → Holds (take (512 * k) t ++ (y ++ drop (512 * k + 512 - 512 * k) (drop (512 * k) t))) (put k (turned kind (recAt k (decodeTable t .slots)) (decodeTable t .slots)) (decodeTable t))
+pub lent-turn : (t y : List ℕ) (kind k s e : ℕ) → Fine t → In k t → s ≡ saidAt k t .session → e ≡ recAt s (decodeTable t .slots) .expiry
+    → y ≡ sealed (take 508 (turnedBytes kind e (part (512 * k) (512 * k + 512 - 512 * k) t)))
+    → Holds (take (512 * k) t ++ (y ++ drop (512 * k + 512 - 512 * k) (drop (512 * k) t))) (put k (turned kind (saidAt k t) (decodeTable t .slots)) (decodeTable t))
 unfolding turned
 lent-turn t y kind k s e f i hs he hy =
-    let r : Rec = recAt k (decodeTable t .slots) in
+    let r : Rec = saidAt k t in
     let z = fits-of t k f in
     let w : 512 * k + 512 - 512 * k ≡ 512 = omega arith in
     let q : e ≡ recAt (r .session) (decodeTable t .slots) .expiry = he ∙ rw hs in

@@ -2,85 +2,48 @@
 use mathlib.Core.Path.{_≡_, refl, sym, ap, _∙_}
 use mathlib.Core.Bool.{Bool, true, false, _&&_, not, _||_}
 use mathlib.Core.List.{List, [], _∷_}
-use Prim.Native.Nat.{ℕ, zero, suc, _+_, _-_, _*_, _<_, _≤_}
-use native.Mathlib.Nat.{zero-add}
+use Prim.Native.Nat.{ℕ, suc, _+_, _-_, _*_, _<_, _≤_}
 use native.Mathlib.Numerals.{add-one}
 use native.Mathlib.Omega.{arith}
 use borrow.Author.Tests.{eq-eqb, ne-eqb}
 use lib.Dec.{eqb, leb, ltb}
-use lib.ListN.{length, take, getD, drop-of-length-le, List·getD-eq-default}
+use lib.ListN.{length, drop-of-length-le}
 use lib.Seq.{drop-cons}
-use Rattle.protocol.specs.Bytes.{if, part, num, same}
+use Rattle.protocol.specs.Bytes.{if, part}
 use Rattle.protocol.specs.Blocks.{checkRight}
-use Rattle.protocol.specs.Tickets.{aLogin}
-use Rattle.protocol.specs.Records.{Rec, freeRec, decodeRec, recBody, ownRight}
-use Rattle.protocol.specs.Table.{decodeTable, recAt, countKind, serialTaken, sessionRight, parentRight, grantRight}
-use Rattle.protocol.proofs.Places.{slot-read, slots-count}
-use Rattle.table_rules.specs.declared.Numbers.{Numbers}
-use Rattle.table_rules.specs.Tests.{numbersOf}
-use Rattle.table_judge.specs.Tests.{blockAt, saidAt, fromSlot, sessionTest, parentTest, hasSerial, aloneAt, slotRight, allFrom}
+use Rattle.protocol.specs.Records.{Rec, freeRec}
+use Rattle.protocol.specs.Table.{decodeTable, recAt, serialTaken, sessionRight, parentRight, grantRight}
+use Rattle.protocol.proofs.Places.{slots-count}
+use Rattle.protocol.specs.Held.{In, saidAt}
+use Rattle.table.specs.declared.Fields.{Fields}
+use Rattle.table.specs.Parts.{Block, fieldsOf}
+use Rattle.table_rules.specs.Tests.{recordRight}
+use Rattle.table_judge.specs.Tests.{fromSlot, sessionTest, parentTest, hasSerial, aloneAt, slotRight, allFrom}
 
--- the part of a slot, as its ends are computed
-pub slot-width : (k : ℕ) → 512 * k + 512 - 512 * k ≡ 512
-slot-width k = omega arith
+-- a slot of so many blocks
+pub slot-in : (b : List ℕ) (n k : ℕ) → length b ≡ 512 * n → 1 ≤ k → k < n → In k b
+slot-in b n k h l g = record { low = l; high = omega arith }
 
--- a slot's record is what its block says
-pub said-block : (b : List ℕ) (k : ℕ) → 1 ≤ k → 512 * k + 512 ≤ length b → saidAt k b ≡ decodeRec (blockAt k b)
-said-block b zero h g = absurd (omega arith)
-said-block b (suc k) h g = slot-read b k (omega arith)
-
--- slot 0 and those beyond the last
-pub at-none : (b : List ℕ) (k : ℕ) {f : Numbers} → f ≡ numbersOf freeRec → k ≡ 0 → f ≡ numbersOf (saidAt k b)
-at-none b k e z = e ∙ rw z
-
-pub at-out : (b : List ℕ) (n k : ℕ) {f : Numbers} → length b ≡ 512 * n → f ≡ numbersOf freeRec → (k ≡ 0 → ⊥) → n ≤ k → f ≡ numbersOf (saidAt k b)
-at-out b n k h e z g = e ∙ ap numbersOf (sym (out k z g))
-  where
-    out : (k : ℕ) → (k ≡ 0 → ⊥) → n ≤ k → saidAt k b ≡ freeRec
-    out zero z g = absurd (z refl)
-    out (suc k) z g = List·getD-eq-default (decodeTable b .slots) freeRec {n = k} (omega (arith, slots-count b))
-
-pub at-said : (b : List ℕ) (n k : ℕ) {f : Numbers} → length b ≡ 512 * n → (k ≡ 0 → ⊥) → k < n → f ≡ numbersOf (decodeRec (part (512 * k) (512 * k + 512 - 512 * k) b)) → f ≡ numbersOf (saidAt k b)
-at-said b n k h z g e = e ∙ rw (slot-width k) (ap numbersOf (sym (said-block b k (low k z) (omega arith))))
-  where
-    low : (k : ℕ) → (k ≡ 0 → ⊥) → 1 ≤ k
-    low zero z = absurd (z refl)
-    low (suc k) z = omega arith
-
--- one field of a slot
-pub serial-said : (b : List ℕ) (k s : ℕ) {v : ℕ} → 1 ≤ k → 512 * k + 512 ≤ length b → v ≡ num 8 4 (part (512 * k) (512 * k + 512 - 512 * k) b)
-    → not (eqb (getD (part (512 * k) (512 * k + 512 - 512 * k) b) 0 0) 0) && eqb v s ≡ hasSerial s (saidAt k b)
-unfolding decodeRec
-serial-said b k s h g e = rw (e, slot-width k, said-block b k h g)
-
-pub login-yes : (b : List ℕ) (k : ℕ) → 1 ≤ k → 512 * k + 512 ≤ length b → getD (part (512 * k) (512 * k + 512 - 512 * k) b) 0 0 ≡ 1 → _≡_ {A = ℕ} 1 (if (eqb (saidAt k b .kind) aLogin) 1 0)
-unfolding decodeRec
-login-yes b k h g e =
-    let q : getD (blockAt k b) 0 0 ≡ 1 = rw (slot-width k) at e in
-    rw (said-block b k h g, eq-eqb (getD (blockAt k b) 0 0) 1 q)
-
-pub login-no : (b : List ℕ) (k : ℕ) → 1 ≤ k → 512 * k + 512 ≤ length b → (getD (part (512 * k) (512 * k + 512 - 512 * k) b) 0 0 ≡ 1 → ⊥) → _≡_ {A = ℕ} 0 (if (eqb (saidAt k b .kind) aLogin) 1 0)
-unfolding decodeRec
-login-no b k h g e =
-    let q : getD (blockAt k b) 0 0 ≡ 1 → ⊥ = rw (slot-width k) at e in
-    rw (said-block b k h g, ne-eqb (getD (blockAt k b) 0 0) 1 q)
+-- two fields of a slot
+pub serial-said : (r : Rec) (serial : ℕ) {k s : ℕ} → k ≡ r .kind → s ≡ r .serial → not (eqb k 0) && eqb s serial ≡ hasSerial serial r
+serial-said r serial e f = rw (e, f)
 
 -- a record beside what it names
-pub session-right : (f s : Numbers) {l r : Bool} → l ≡ if (eqb (f .kind) 6 || eqb (f .kind) 7) (eqb (f .expiry) (s .expiry)) (leb (f .expiry) (s .expiry))
+pub session-right : (f s : Fields) {l r : Bool} → l ≡ if (eqb (f .kind) 6 || eqb (f .kind) 7) (eqb (f .expiry) (s .expiry)) (leb (f .expiry) (s .expiry))
     → r ≡ if (ltb (f .kind) 3) (eqb (f .session) 0) (eqb (s .kind) 2 && l) → r ≡ sessionTest f s
 session-right f s a b = b ∙ rw a
 
-pub parent-right : (f p : Numbers) {g q v r : Bool} → g ≡ if (eqb (f .depth) 1) (eqb (f .parent) 0) (eqb (p .kind) 6 && eqb (p .session) (f .session) && eqb (f .depth) (p .depth + 1))
+pub parent-right : (f p : Fields) {g q v r : Bool} → g ≡ if (eqb (f .depth) 1) (eqb (f .parent) 0) (eqb (p .kind) 6 && eqb (p .session) (f .session) && eqb (f .depth) (p .depth + 1))
     → q ≡ if (eqb (f .kind) 4) (eqb (p .kind) 6 && eqb (p .session) (f .session)) g → v ≡ if (eqb (f .kind) 3 || eqb (f .kind) 7) (eqb (f .parent) (f .session)) q → r ≡ if (ltb (f .kind) 3) (eqb (f .parent) 0) v
     → r ≡ parentTest f p
 parent-right f p a b c d = d ∙ rw (c, b, a)
 
 -- the records that it names
-pub session-is : (slots : List Rec) (r : Rec) → sessionRight slots r ≡ sessionTest (numbersOf r) (numbersOf (recAt (r .session) slots))
+pub session-is : (slots : List Rec) (r : Rec) → sessionRight slots r ≡ sessionTest (fieldsOf r) (fieldsOf (recAt (r .session) slots))
 unfolding sessionRight
 session-is slots r = refl
 
-pub parent-is : (slots : List Rec) (r : Rec) → parentRight slots r ≡ parentTest (numbersOf r) (numbersOf (recAt (r .parent) slots))
+pub parent-is : (slots : List Rec) (r : Rec) → parentRight slots r ≡ parentTest (fieldsOf r) (fieldsOf (recAt (r .parent) slots))
 unfolding parentRight grantRight
 parent-is slots r = refl
 
@@ -116,28 +79,6 @@ pub untaken-all : (b : List ℕ) (n k s j : ℕ) → length b ≡ 512 * n → Un
 unfolding serialTaken
 untaken-all b n k s j h u g = sym (ap (serialTaken s) (from-end b n h j (u .low) g)) ∙ u .rest
 
--- c logins stand before slot k
-pub record Counted (b : List ℕ) (n c k : ℕ) : Type 0 where
-  pub low : 1 ≤ k
-  pub high : k ≤ n
-  pub few : c ≤ k
-  pub rest : c + countKind aLogin (fromSlot k b) ≡ countKind aLogin (decodeTable b .slots)
-
-pub counted-start : (b : List ℕ) (n : ℕ) → 1 ≤ n → Counted b n 0 1
-counted-start b n h = record { low = omega arith; high = h; few = omega arith; rest = zero-add _ }
-
-pub counted-next : (b : List ℕ) (n c k : ℕ) {w : ℕ} → length b ≡ 512 * n → Counted b n c k → k < n → w ≡ if (eqb (saidAt k b .kind) aLogin) 1 0 → w ≤ 1 → Counted b n (c + w) (k + 1)
-unfolding countKind
-counted-next b n c k h u g e l =
-    let q : countKind aLogin (fromSlot k b) ≡ if (eqb (saidAt k b .kind) aLogin) 1 0 + countKind aLogin (fromSlot (k + 1) b) = ap (countKind aLogin) (from-step b n h k g) in
-    record { low = omega arith; high = omega arith; few = omega (arith, u .few); rest = omega (arith, u .rest) }
-
-pub counted-all : (b : List ℕ) (n k : ℕ) {c : ℕ} → length b ≡ 512 * n → Counted b n c k → n ≤ k → c ≡ countKind aLogin (decodeTable b .slots)
-unfolding countKind
-counted-all b n k h u g =
-    let q : countKind aLogin (fromSlot k b) ≡ 0 = ap (countKind aLogin) (from-end b n h k (u .low) g) in
-    omega (arith, u .rest)
-
 -- slots before k passed
 pub record Passed (test : ℕ → Bool) (n k : ℕ) : Type 0 where
   pub low : 1 ≤ k
@@ -166,29 +107,25 @@ module _ (test : ℕ → Bool) (n k : ℕ) where
   passed-all p h = let e : n - k ≡ 0 = omega arith in rw e at (p .rest)
 
 -- a serial that no later record has
-pub alone-free : (b : List ℕ) (k : ℕ) {f : Numbers} → f ≡ numbersOf (saidAt k b) → f .kind ≡ 0 → true ≡ aloneAt k b
+pub alone-free : (b : List ℕ) (k : ℕ) {f : Fields} → f ≡ fieldsOf (saidAt k b) → f .kind ≡ 0 → true ≡ aloneAt k b
 unfolding aloneAt
 alone-free b k e z =
-    let q : saidAt k b .kind ≡ 0 = sym (ap (λ (x : Numbers). x .kind) e) ∙ z in
+    let q : saidAt k b .kind ≡ 0 = sym (ap (λ (x : Fields). x .kind) e) ∙ z in
     rw (eq-eqb (saidAt k b .kind) 0 q)
 
-pub alone-held : (b : List ℕ) (k : ℕ) {f : Numbers} {t : Bool} → f ≡ numbersOf (saidAt k b) → (f .kind ≡ 0 → ⊥) → t ≡ serialTaken (f .serial) (fromSlot (k + 1) b) → not t ≡ aloneAt k b
+pub alone-held : (b : List ℕ) (k : ℕ) {f : Fields} {t : Bool} → f ≡ fieldsOf (saidAt k b) → (f .kind ≡ 0 → ⊥) → t ≡ serialTaken (f .serial) (fromSlot (k + 1) b) → not t ≡ aloneAt k b
 unfolding aloneAt
 alone-held b k {f} e z g =
-    let q : saidAt k b .kind ≡ 0 → ⊥ = λ x. z (ap (λ (y : Numbers). y .kind) e ∙ x) in
+    let q : saidAt k b .kind ≡ 0 → ⊥ = λ x. z (ap (λ (y : Fields). y .kind) e ∙ x) in
     rw (ne-eqb (saidAt k b .kind) 0 q, g, e)
 
 -- all that is asked of a slot
-pub slot-right : (b : List ℕ) (n clock next k : ℕ) {f s p : Numbers} {o u v c a : Bool} → length b ≡ 512 * n → 1 ≤ k → k < n
-    → f ≡ numbersOf (saidAt k b) → s ≡ numbersOf (saidAt (f .session) b) → p ≡ numbersOf (saidAt (f .parent) b)
-    → o ≡ ownRight clock next (decodeRec (part (512 * k) (512 * k + 512 - 512 * k) b)) && same (take 508 (part (512 * k) (512 * k + 512 - 512 * k) b)) (recBody (decodeRec (part (512 * k) (512 * k + 512 - 512 * k) b)))
-    → u ≡ sessionTest f s → v ≡ parentTest f p → c ≡ checkRight (part (512 * k) 512 b) → a ≡ aloneAt k b
+pub slot-right : (b : List ℕ) (clock next k : ℕ) {bl : List ℕ} {f s p : Fields} {o u v c a : Bool} → Block k b bl → f ≡ fieldsOf (saidAt k b)
+    → s ≡ fieldsOf (saidAt (f .session) b) → p ≡ fieldsOf (saidAt (f .parent) b)
+    → o ≡ recordRight clock next bl → u ≡ sessionTest f s → v ≡ parentTest f p → c ≡ checkRight (part (512 * k) 512 b) → a ≡ aloneAt k b
     → o && u && v && c && a ≡ slotRight clock next b k
 unfolding slotRight
-slot-right b n clock next k {f} {s} {p} h l g e i j o u v c a =
-    let w : saidAt k b ≡ decodeRec (blockAt k b) = said-block b k l (omega arith) in
-    let o' : ownRight clock next (decodeRec (part (512 * k) (512 * k + 512 - 512 * k) b)) && same (take 508 (part (512 * k) (512 * k + 512 - 512 * k) b)) (recBody (decodeRec (part (512 * k) (512 * k + 512 - 512 * k) b)))
-    ≡ ownRight clock next (saidAt k b) && same (take 508 (blockAt k b)) (recBody (saidAt k b)) = rw (slot-width k, w) in
+slot-right b clock next k {f = f} {s = s} {p = p} at e i j o u v c a =
     let u' : sessionTest f s ≡ sessionRight (decodeTable b .slots) (saidAt k b) = rw (i, e) (sym (session-is (decodeTable b .slots) (saidAt k b))) in
     let v' : parentTest f p ≡ parentRight (decodeTable b .slots) (saidAt k b) = rw (j, e) (sym (parent-is (decodeTable b .slots) (saidAt k b))) in
-    rw (o, o', u, u', v, v', c, a)
+    rw (o, at .says, at .is, u, u', v, v', c, a)

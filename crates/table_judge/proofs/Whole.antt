@@ -9,7 +9,7 @@ use native.Mathlib.Decide.{decLt, decLe}
 use borrow.Author.Tests.{leb-true, le-leb}
 use lib.Dec.{eqb, leb, lit≤}
 use lib.ListN.{length, take, drop, getD, List·getD-eq-default}
-use lib.Seq.{take-take, length-take-le}
+use lib.Seq.{take-take}
 use Rattle.protocol.specs.Bytes.{same, part, num, bytesOf}
 use Rattle.protocol.specs.Blocks.{checkRight, sealed}
 use Rattle.protocol.specs.Tickets.{aFree, aLogin}
@@ -17,11 +17,12 @@ use Rattle.protocol.specs.Records.{Rec, freeRec, recBody, encodeRec, decodeRec,
 use Rattle.protocol.specs.Table.{headBody, decodeTable, countKind, serialTaken, serialsDiffer, sessionRight, parentRight, tableLawful, loginCap, lastTime}
 use Rattle.protocol.proofs.Laws.{both, both5, same-eq, same-refl, recRight, Rules, rules, rules-hold, sized-read, length-body, part-long, lawful-bytes, lawful-fits, lawful-clock, lawful-rules, one-test}
 use Rattle.protocol.proofs.Places.{head-bytes, slots-count, lawful-by-blocks, block-lawful}
+use Rattle.protocol.proofs.Held.{slot-of}
 use Rattle.protocol.proofs.Kept.{free-right, right-all, right-slot}
 use Rattle.block.proofs.Bytewise.{part-bytes, sealed-test, Bytes}
-use Rattle.block.proofs.Parts.{part-part}
-use Rattle.table_judge.specs.Tests.{blockAt, saidAt, aloneAt, slotRight, allFrom, headRight, judged}
-use Rattle.table_judge.proofs.Slots.{said-block}
+use Rattle.protocol.specs.Held.{saidAt}
+use Rattle.table_rules.specs.Tests.{headRight}
+use Rattle.table_judge.specs.Tests.{blockAt, aloneAt, slotRight, allFrom, judged}
 
 -- Slots, all and each
 
@@ -97,7 +98,7 @@ module _ (b : List ℕ) (m : ℕ) (h : length b ≡ 512 * m + 512) (few : m ≤ 
     r = saidAt (suc k) b
 
     said : r ≡ decodeRec (blockAt (suc k) b)
-    said = said-block b (suc k) (omega arith) (omega arith)
+    said = slot-of b (suc k) (record { low = omega arith; high = omega arith })
 
     slot-test : ownRight clock next r ≡ true → same (take 508 (blockAt (suc k) b)) (recBody r) && checkRight (blockAt (suc k) b) ≡ same (blockAt (suc k) b) (encodeRec r)
     unfolding encodeRec
@@ -134,11 +135,11 @@ module _ (b : List ℕ) (m : ℕ) (h : length b ≡ 512 * m + 512) (few : m ≤ 
 
   -- bytes that pass are lawful
   forth : judged b ≡ true → tableLawful b ≡ true
-  unfolding judged headRight decodeTable
+  unfolding judged decodeTable
   forth e =
       let rest : Bool = allFrom (slotRight clock next b) 1 (length b / 512 - 1) in
       let logins : Bool = leb (countKind aLogin slots) loginCap in
-      let p = both (headRight b) (checkRight (blockAt 0 b) && rest && logins) e in
+      let p = both (headRight (length b / 512 - 1) b) (checkRight (blockAt 0 b) && rest && logins) e in
       let q = both (checkRight (blockAt 0 b) && rest) logins (p .1) in
       let s = both (checkRight (blockAt 0 b)) rest (q .0) in
       let d = both (leb clock lastTime) (same (take 508 b) (headBody (length b / 512 - 1) clock next)) (p .0) in
@@ -182,7 +183,7 @@ module _ (b : List ℕ) (m : ℕ) (h : length b ≡ 512 * m + 512) (few : m ≤ 
         })
 
   back : tableLawful b ≡ true → judged b ≡ true
-  unfolding judged headRight
+  unfolding judged
   back e =
       let z = rules (decodeTable b) (lawful-rules b e) in
       let l : length b ≡ 512 * (length b / 512 - 1) + 512 = omega arith in
@@ -196,42 +197,24 @@ module _ (b : List ℕ) (m : ℕ) (h : length b ≡ 512 * m + 512) (few : m ≤ 
 
 -- What the code knows at its returns
 
--- the header's tests, taken from its own part
-head-part : (b : List ℕ) (n : ℕ) → length b ≡ 512 * n → 9 ≤ n
-    → leb (num 8 8 (take 512 b)) lastTime && same (take 508 (take 512 b)) (headBody (n - 1) (num 8 8 (take 512 b)) (num 16 4 (take 512 b))) ≡ headRight b
-unfolding headRight
-head-part b n h l =
-    let m : n - 1 ≡ length b / 512 - 1 = omega arith in
-    let c : part 8 8 (take 512 b) ≡ part 8 8 b = part-part b 0 512 8 8 (lit≤ tt) (omega arith) in
-    let x : part 16 4 (take 512 b) ≡ part 16 4 b = part-part b 0 512 16 4 (lit≤ tt) (omega arith) in
-    rw (m, c, x, take-take 508 512 b (lit≤ tt))
+module _ (b : List ℕ) (n : ℕ) {good : Bool} (h : length b ≡ 512 * n) (l : 9 ≤ n) (e : good ≡ headRight (n - 1) b) where
+  count-is : n - 1 ≡ length b / 512 - 1
+  count-is = omega arith
 
-pub front-long : (b : List ℕ) (n : ℕ) → length b ≡ 512 * n → 9 ≤ n → 512 ≡ length (take 512 b)
-front-long b n h l = sym (length-take-le 512 b (omega arith))
+  pub clock-low : {c : ℕ} → good ≡ true → c ≡ decodeTable b .clock → c ≤ lastTime
+  unfolding decodeTable
+  clock-low g x = rw x (leb-true (num 8 8 b) lastTime (both (leb (num 8 8 b) lastTime) _ (sym e ∙ g) .0))
 
-pub front-whole : (b : List ℕ) (n : ℕ) → length b ≡ 512 * n → 9 ≤ n → length (take 512 b) ≡ 512
-front-whole b n h l = length-take-le 512 b (omega arith)
+  pub table-wrong : Bytes b → n ≤ 128 → good ≡ false → false ≡ tableLawful b
+  unfolding judged
+  table-wrong y f g =
+      let p : headRight (length b / 512 - 1) b ≡ false = rw count-is at (sym e ∙ g) in
+      sym (rw p) ∙ tests-law b (n - 1) (omega arith) (omega arith) y
 
-pub clock-low : (b : List ℕ) (n : ℕ) {good : Bool} {c : ℕ} → length b ≡ 512 * n → 9 ≤ n
-    → good ≡ leb (num 8 8 (take 512 b)) lastTime && same (take 508 (take 512 b)) (headBody (n - 1) (num 8 8 (take 512 b)) (num 16 4 (take 512 b))) → good ≡ true → c ≡ num 8 8 b → c ≤ lastTime
-unfolding headRight
-clock-low b n h l e g x =
-    let p : headRight b ≡ true = sym (head-part b n h l) ∙ sym e ∙ g in
-    rw x (leb-true (num 8 8 b) lastTime (both (leb (num 8 8 b) lastTime) _ p .0))
-
-pub table-wrong : (b : List ℕ) (n : ℕ) {good : Bool} → Bytes b → length b ≡ 512 * n → 9 ≤ n → n ≤ 128
-    → good ≡ leb (num 8 8 (take 512 b)) lastTime && same (take 508 (take 512 b)) (headBody (n - 1) (num 8 8 (take 512 b)) (num 16 4 (take 512 b))) → good ≡ false → false ≡ tableLawful b
-unfolding judged
-table-wrong b n y h l f e g =
-    let p : headRight b ≡ false = sym (head-part b n h l) ∙ sym e ∙ g in
-    sym (rw p) ∙ tests-law b (n - 1) (omega arith) (omega arith) y
-
-pub table-right : (b : List ℕ) (n : ℕ) {good k s : Bool} {c x v : ℕ} → Bytes b → length b ≡ 512 * n → 9 ≤ n → n ≤ 128
-    → good ≡ leb (num 8 8 (take 512 b)) lastTime && same (take 508 (take 512 b)) (headBody (n - 1) (num 8 8 (take 512 b)) (num 16 4 (take 512 b))) → good ≡ true
-    → c ≡ num 8 8 b → x ≡ num 16 4 b → k ≡ checkRight (part (512 * 0) 512 b) → s ≡ allFrom (slotRight c x b) 1 (n - 1) → v ≡ countKind aLogin (decodeTable b .slots)
-    → k && s && leb v 32 ≡ tableLawful b
-unfolding judged loginCap
-table-right b n y h l f e g c x k s v =
-    let p : headRight b ≡ true = sym (head-part b n h l) ∙ sym e ∙ g in
-    let m : n - 1 ≡ length b / 512 - 1 = omega arith in
-    rw (k, s, v, c, x, m) (sym (rw p)) ∙ tests-law b (n - 1) (omega arith) (omega arith) y
+  pub table-right : {k s : Bool} {c x v : ℕ} → Bytes b → n ≤ 128 → good ≡ true → c ≡ decodeTable b .clock → x ≡ decodeTable b .next
+      → k ≡ checkRight (part (512 * 0) 512 b) → s ≡ allFrom (slotRight c x b) 1 (n - 1) → v ≡ countKind aLogin (decodeTable b .slots)
+      → k && s && leb v 32 ≡ tableLawful b
+  unfolding judged loginCap decodeTable
+  table-right y f g c x k s v =
+      let p : headRight (length b / 512 - 1) b ≡ true = rw count-is at (sym e ∙ g) in
+      rw (k, s, v, c, x, count-is) (sym (rw p)) ∙ tests-law b (n - 1) (omega arith) (omega arith) y

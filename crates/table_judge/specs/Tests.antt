@@ -8,29 +8,28 @@ use Rattle.protocol.specs.Bytes.{if, same, part, num}
 use Rattle.protocol.specs.Blocks.{checkRight}
 use Rattle.protocol.specs.Tickets.{aFree, aLogin, aSession, aService, aProxy, aGrant, aVisit}
 use Rattle.protocol.specs.Records.{Rec, freeRec, recBody, ownRight}
-use Rattle.protocol.specs.Table.{decodeTable, headBody, recAt, countKind, serialTaken, sessionRight, parentRight, loginCap, lastTime}
-use Rattle.table_rules.specs.declared.Numbers.{Numbers}
+use Rattle.protocol.specs.Table.{atClock, atNext, decodeTable, countKind, serialTaken, sessionRight, parentRight, loginCap}
+use Rattle.protocol.specs.Held.{saidAt}
+use Rattle.table.specs.declared.Fields.{Fields}
+use Rattle.table_rules.specs.Tests.{headRight}
 
--- the block of a slot, and the record that it says
+-- the block of a slot
 abbrev pub blockAt : ℕ → List ℕ → List ℕ
 blockAt k b = part (512 * k) 512 b
-
-abbrev pub saidAt : ℕ → List ℕ → Rec
-saidAt k b = recAt k (decodeTable b .slots)
 
 -- the records from a slot on
 abbrev pub fromSlot : ℕ → List ℕ → List Rec
 fromSlot k b = drop k (freeRec ∷ decodeTable b .slots)
 
 -- sessionRight, by the numbers of a record and of the session that it names
-abbrev pub sessionTest : Numbers → Numbers → Bool
+abbrev pub sessionTest : Fields → Fields → Bool
 sessionTest f s =
     if (ltb (f .kind) aService)
     (eqb (f .session) 0)
     (eqb (s .kind) aSession && (if (eqb (f .kind) aGrant || eqb (f .kind) aVisit) (eqb (f .expiry) (s .expiry)) (leb (f .expiry) (s .expiry))))
 
 -- parentRight, by the numbers of a record and of the parent that it names
-abbrev pub parentTest : Numbers → Numbers → Bool
+abbrev pub parentTest : Fields → Fields → Bool
 parentTest f p =
     if (ltb (f .kind) aService)
     (eqb (f .parent) 0)
@@ -62,14 +61,10 @@ unfoldable pub allFrom : (ℕ → Bool) → ℕ → ℕ → Bool
 allFrom test k zero = true
 allFrom test k (suc m) = test k && allFrom test (k + 1) m
 
--- all that is asked of the header, its check aside
-unfoldable pub headRight : List ℕ → Bool
-headRight b = leb (num 8 8 b) lastTime && same (take 508 b) (headBody (length b / 512 - 1) (num 8 8 b) (num 16 4 b))
-
 -- all that is asked of a table
 unfoldable pub judged : List ℕ → Bool
 judged b =
-    headRight b
+    headRight (length b / 512 - 1) b
     && (checkRight (blockAt 0 b)
-    && allFrom (slotRight (num 8 8 b) (num 16 4 b) b) 1 (length b / 512 - 1)
+    && allFrom (slotRight (num atClock 8 b) (num atNext 4 b) b) 1 (length b / 512 - 1)
     && leb (countKind aLogin (decodeTable b .slots)) loginCap)

@@ -1,73 +1,44 @@
 // The ticket table judged by every rule: its shape, the header and each record by itself, the session and the parent that
 // a record names, serials that differ, and the count of logins. One pass over the blocks; serials are compared in pairs.
-use table_rules::Numbers;
+use table::Fields;
 ghost use mathlib.Core.Path.{_≡_};
 ghost use mathlib.Core.Bool.{true};
 ghost use Prim.Native.Nat.{_+_, _-_, _*_, _≤_, _<_};
 ghost use lib.ListN.{length};
-ghost use lib.Dec.{eqb};
-ghost use Rattle.protocol.specs.Bytes.{if};
-ghost use Rattle.protocol.specs.Tickets.{aLogin};
-ghost use Rattle.protocol.specs.Records.{freeRec};
-ghost use Rattle.protocol.specs.Table.{decodeTable, countKind, serialTaken, tableShape, tableLawful, lastTime};
-ghost use Rattle.table_rules.specs.Tests.{numbersOf};
-ghost use Rattle.table_judge.specs.Tests.{saidAt, fromSlot, sessionTest, parentTest, hasSerial, aloneAt, slotRight, allFrom};
-
-fn free_numbers() -> Numbers
-    ensures { λ r. ⌜ r ≡ numbersOf freeRec ⌝ }
-{
-    Numbers {
-        kind: 0,
-        mark: 0,
-        parent: 0,
-        session: 0,
-        depth: 0,
-        serial: 0,
-        expiry: 0,
-    }
-}
-
-// What a slot says; slot 0, and any beyond the last, is free.
-fn numbers_at(table: &[u8], n: usize, slot: usize) -> Numbers
-    requires { ⌜ length (now table) ≡ 512 * n ⌝ }
-    ensures { λ r. ⌜ r ≡ numbersOf (saidAt slot (now (table .entry))) ⌝ }
-{
-    if slot == 0 {
-        return free_numbers();
-    }
-    if n <= slot {
-        return free_numbers();
-    }
-    let from = 512 * slot;
-    let to = from + 512;
-    table_rules::numbers_of(&table[from..to])
-}
+ghost use Rattle.protocol.specs.Table.{serialTaken, tableShape, tableLawful, lastTime};
+ghost use Rattle.table.specs.Parts.{fieldsOf};
+ghost use Rattle.protocol.specs.Held.{In, saidAt};
+ghost use Rattle.table_judge.specs.Tests.{fromSlot, sessionTest, parentTest, hasSerial, aloneAt, slotRight, allFrom};
 
 // A record and the session that it names.
-fn session_right(f: Numbers, s: Numbers) -> bool
+fn session_right(f: Fields, s: Fields) -> bool
     ensures { λ r. ⌜ r ≡ sessionTest f s ⌝ }
 {
-    let lasts = table_rules::pick(
-        (f.kind == 6) | (f.kind == 7),
+    let lasts = text::pick(
+        (f.kind == ticket::Grant::KIND) | (f.kind == ticket::Visit::KIND),
         f.expiry == s.expiry,
         f.expiry <= s.expiry,
     );
-    table_rules::pick(f.kind < 3, f.session == 0, (s.kind == 2) & lasts)
+    text::pick(
+        f.kind < ticket::Service::KIND,
+        f.session == 0,
+        (s.kind == ticket::Session::KIND) & lasts,
+    )
 }
 
 // A record and the parent that it names.
-fn parent_right(f: Numbers, p: Numbers) -> bool
+fn parent_right(f: Fields, p: Fields) -> bool
     ensures { λ r. ⌜ r ≡ parentTest f p ⌝ }
 {
-    let under = (p.kind == 6) & (p.session == f.session);
+    let under = (p.kind == ticket::Grant::KIND) & (p.session == f.session);
     let deeper = f.depth as u16 == p.depth as u16 + 1;
-    let grant = table_rules::pick(f.depth == 1, f.parent == 0, under & deeper);
-    let proxied = table_rules::pick(f.kind == 4, under, grant);
-    table_rules::pick(
-        f.kind < 3,
+    let grant = text::pick(f.depth == 1, f.parent == 0, under & deeper);
+    let proxied = text::pick(f.kind == ticket::Proxy::KIND, under, grant);
+    text::pick(
+        f.kind < ticket::Service::KIND,
         f.parent == 0,
-        table_rules::pick(
-            (f.kind == 3) | (f.kind == 7),
+        text::pick(
+            (f.kind == ticket::Service::KIND) | (f.kind == ticket::Visit::KIND),
             f.parent == f.session,
             proxied,
         ),
@@ -76,13 +47,10 @@ fn parent_right(f: Numbers, p: Numbers) -> bool
 
 // Does the record in a slot, unless it is free, have this serial?
 fn has_serial(table: &[u8], slot: usize, serial: u32) -> bool
-    requires { ⌜ (1 ≤ slot) × (512 * slot + 512 ≤ length (now table)) ⌝ }
+    requires { ⌜ In slot (now table) ⌝ }
     ensures { λ r. ⌜ r ≡ hasSerial serial (saidAt slot (now (table .entry))) ⌝ }
 {
-    let from = 512 * slot;
-    let to = from + 512;
-    let block = &table[from..to];
-    (block[0] != 0) & (block::get_u32(block, 8) == serial)
+    (table::kind_of(table, slot) != ticket::FREE) & (table::serial_of(table, slot) == serial)
 }
 
 // Has a record behind slot k this serial?
@@ -101,11 +69,11 @@ fn serial_taken(table: &[u8], n: usize, k: usize, serial: u32) -> bool
 }
 
 // Is the serial of the record in slot k, unless it is free, its own among those behind it?
-fn serial_alone(table: &[u8], n: usize, k: usize, f: Numbers) -> bool
-    requires { ⌜ (length (now table) ≡ 512 * n) × (k < n) × (f ≡ numbersOf (saidAt k (now table))) ⌝ }
+fn serial_alone(table: &[u8], n: usize, k: usize, f: Fields) -> bool
+    requires { ⌜ (length (now table) ≡ 512 * n) × (k < n) × (f ≡ fieldsOf (saidAt k (now table))) ⌝ }
     ensures { λ r. ⌜ r ≡ aloneAt k (now (table .entry)) ⌝ }
 {
-    if f.kind == 0 {
+    if f.kind == ticket::FREE {
         return true;
     }
     !serial_taken(table, n, k, f.serial)
@@ -116,12 +84,11 @@ fn slot_right(table: &[u8], n: usize, clock: u64, next: u32, k: usize) -> bool
     requires { ⌜ (length (now table) ≡ 512 * n) × (clock ≤ lastTime) × (1 ≤ k) × (k < n) ⌝ }
     ensures { λ r. ⌜ r ≡ slotRight clock next (now (table .entry)) k ⌝ }
 {
-    let f = numbers_at(table, n, k);
-    let s = numbers_at(table, n, f.session as usize);
-    let p = numbers_at(table, n, f.parent as usize);
-    let from = 512 * k;
-    let to = from + 512;
-    table_rules::record_right(&table[from..to], clock, next)
+    let b = table::block_at(table, k);
+    let f = table::fields_of(b);
+    let s = table::fields_at(table, f.session as usize);
+    let p = table::fields_at(table, f.parent as usize);
+    table_rules::record_right(b, f, clock, next)
         & session_right(f, s)
         & parent_right(f, p)
         & block::block_ok(table, k)
@@ -143,30 +110,6 @@ fn slots_right(table: &[u8], n: usize, clock: u64, next: u32) -> bool
     true
 }
 
-// 1 where a slot holds a login, else 0.
-fn login_at(table: &[u8], slot: usize) -> usize
-    requires { ⌜ (1 ≤ slot) × (512 * slot + 512 ≤ length (now table)) ⌝ }
-    ensures { λ r. ⌜ (r ≡ if (eqb (saidAt slot (now (table .entry)) .kind) aLogin) 1 0) × (r ≤ 1) ⌝ }
-{
-    let from = 512 * slot;
-    let to = from + 512;
-    let block = &table[from..to];
-    if block[0] == 1 { 1 } else { 0 }
-}
-
-fn logins(table: &[u8], n: usize) -> usize
-    requires { ⌜ (length (now table) ≡ 512 * n) × (1 ≤ n) ⌝ }
-    ensures { λ r. ⌜ r ≡ countKind aLogin (decodeTable (now (table .entry)) .slots) ⌝ }
-{
-    let mut c = 0;
-    let mut k = 1;
-    while k < n {
-        c += login_at(table, k);
-        k += 1;
-    }
-    c
-}
-
 // Is the length of a table right: a multiple of 512, 9 to 128 blocks?
 pub fn shape_right(n: usize) -> bool
     ensures { λ r. ⌜ r ≡ tableShape n ⌝ }
@@ -179,13 +122,13 @@ fn blocks_lawful(table: &[u8], n: usize) -> bool
     requires { ⌜ (length (now table) ≡ 512 * n) × (9 ≤ n) × (n ≤ 128) ⌝ }
     ensures { λ r. ⌜ r ≡ tableLawful (now (table .entry)) ⌝ }
 {
-    let good = table_rules::head_right(&table[..512], n - 1);
+    let good = table_rules::head_right(table, n - 1);
     if good {
-        let clock = block::get_u64(table, 8);
-        let next = block::get_u32(table, 16);
+        let clock = table::clock_of(table);
+        let next = table::next_of(table);
         return block::block_ok(table, 0)
             & slots_right(table, n, clock, next)
-            & (logins(table, n) <= 32);
+            & (table::count_kind(table, ticket::Login::KIND) <= ticket::Login::MOST);
     }
     false
 }

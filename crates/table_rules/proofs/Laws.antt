@@ -13,11 +13,15 @@ use Rattle.protocol.specs.Utf8.{nameRight}
 use Rattle.protocol.specs.Bytes.{if, ascii, same, within, allWithin, zeros, padTo, part, num, bytesOf}
 use Rattle.protocol.specs.Tickets.{aWaiting, lifetime, secretLength, markMost, depthLeast, depthMost, textLeast, textMost}
 use Rattle.protocol.specs.Records.{decodeRec, recBody, fieldsRight, serialRight, expiryRight, sinceRight, ownRight, textRight as recTextRight, lettersRight}
-use Rattle.protocol.specs.Table.{headBody, lastTime}
+use Rattle.protocol.specs.Table.{headBody}
 use Rattle.protocol.proofs.Laws.{both, length-bytes, length-pad, text-most, part-long, and-false, one-test}
 use Rattle.protocol.proofs.Sizes.{secret-most}
-use Rattle.table_rules.specs.declared.Numbers.{Numbers}
-use Rattle.table_rules.specs.Tests.{numbersOf, limitsRight, lifeRight, secretsRight, textRight, gapsZero}
+use Rattle.ticket.specs.declared.Limits.{Limits}
+use Rattle.ticket.specs.Kinds.{limitsOf}
+use Rattle.ticket.proofs.Laws.{limited}
+use Rattle.table.specs.declared.Fields.{Fields}
+use Rattle.table.specs.Parts.{fieldsOf}
+use Rattle.table_rules.specs.Tests.{limitsRight, lifeRight, sinceTest, secretsRight, textRight, gapsZero, recordRight, headRight}
 use Rattle.block.proofs.Bytewise.{Bytes, front-test, same-zeros, field-own, field-test, two-own, one-and-zero, full-own, text-own}
 
 -- A record's bytes
@@ -53,16 +57,16 @@ limits-first true true true false false tb i v life = refl
 -- the rules of a record by itself: limits, and the rest
 own-limits : (c n : ℕ) (b : List ℕ) → length b ≡ 512
     → ownRight c n (decodeRec b)
-    ≡ limitsRight (numbersOf (decodeRec b)) (num 40 2 b)
+    ≡ limitsRight (fieldsOf (decodeRec b)) (num 40 2 b)
     && (allWithin 0 0 (part (24 + secretLength (getD b 0 0)) (16 - secretLength (getD b 0 0)) b) && lettersRight (getD b 0 0) (part 44 (num 40 2 b) b) && (if (eqb (getD b 0 0) aWaiting) true (allWithin 0 0 (part 256 16 b)))
-    && sinceRight c (decodeRec b) && lifeRight c n (numbersOf (decodeRec b)))
-unfolding ownRight fieldsRight recTextRight serialRight expiryRight decodeRec limitsRight lifeRight
+    && sinceTest c (fieldsOf (decodeRec b)) && lifeRight c n (fieldsOf (decodeRec b)))
+unfolding ownRight fieldsRight recTextRight serialRight expiryRight sinceRight decodeRec limitsRight lifeRight
 own-limits c n b h =
     let k : ℕ = getD b 0 0 in
     rw (text-length b k (num 40 2 b) h, drop-part b 24 16 (secretLength k) (secret-most k) (omega arith))
     (limits-first (leb k 7) (leb (getD b 1 0) (markMost k)) (within (depthLeast k) (depthMost k) (getD b 6 0)) _ (within (textLeast k) (textMost k) (num 40 2 b)) _ _ _ _)
 
-module _ (b : List ℕ) (h : length b ≡ 512) (y : (i : ℕ) → getD b i 0 < 256) where
+module _ (b : List ℕ) (h : 512 ≤ length b) (y : (i : ℕ) → getD b i 0 < 256) where
   fits : (m : ℕ) → m ≤ 512 → m ≤ length b
   fits m g = omega arith
 
@@ -112,17 +116,19 @@ module _ (b : List ℕ) (h : length b ≡ 512) (y : (i : ℕ) → getD b i 0 < 2
 
 -- What the code knows at its returns
 
-pub limits-high : (f : Numbers) (n : ℕ) → 7 < f .kind → false ≡ limitsRight f n
+pub limits-high : (f : Fields) (n : ℕ) → 7 < f .kind → false ≡ limitsRight f n
 unfolding limitsRight
 limits-high f n h = rw (lt-leb (f .kind) 7 h)
 
-pub limits-low : (f : Numbers) (n : ℕ) {m dl dm tl tm : ℕ} → f .kind ≤ 7 → m ≡ markMost (f .kind) → dl ≡ depthLeast (f .kind) → dm ≡ depthMost (f .kind) → tl ≡ textLeast (f .kind) → tm ≡ textMost (f .kind)
-    → leb (f .mark) m && (leb dl (f .depth) && leb (f .depth) dm) && (leb tl n && leb n tm) ≡ limitsRight f n
+pub limits-low : (f : Fields) (n : ℕ) {l : Limits} → f .kind ≤ 7 → l ≡ limitsOf (f .kind)
+    → leb (f .mark) (l .«mark_most») && (leb (l .«depth_least») (f .depth) && leb (f .depth) (l .«depth_most»)) && (leb (l .«text_least») n && leb n (l .«text_most»)) ≡ limitsRight f n
 unfolding limitsRight
-limits-low f n h a b c d e = rw (le-leb (f .kind) 7 h, a, b, c, d, e)
+limits-low f n h e =
+    let m = limited (f .kind) e in
+    rw (le-leb (f .kind) 7 h, m .mark, m .shallow, m .deep, m .short, m .long)
 
 -- within the limits the text is short
-pub limits-short : (f : Numbers) (n : ℕ) {good : Bool} → good ≡ limitsRight f n → good ≡ true → n ≤ 200
+pub limits-short : (f : Fields) (n : ℕ) {good : Bool} → good ≡ limitsRight f n → good ≡ true → n ≤ 200
 unfolding limitsRight
 limits-short f n e g =
     let k : ℕ = f .kind in
@@ -136,14 +142,10 @@ pub serial-right : (next serial : ℕ) {p : Bool} → p ≡ if (eqb next 0) true
 unfolding serialRight
 serial-right next serial e = rw e
 
-pub life-right : (f : Numbers) (clock next : ℕ) {m : ℕ} {s r : Bool} → m ≡ lifetime (f .kind) → s ≡ serialRight next (f .serial)
+pub life-right : (f : Fields) (clock next : ℕ) {m : ℕ} {s r : Bool} → m ≡ lifetime (f .kind) → s ≡ serialRight next (f .serial)
     → r ≡ if (eqb (f .kind) 0) (eqb (f .serial) 0 && eqb (f .expiry) 0) (s && (ltb clock (f .expiry) && leb (f .expiry) (clock + m))) → r ≡ lifeRight clock next f
 unfolding lifeRight
 life-right f clock next a b e = e ∙ rw (a, b)
-
-pub since-right : (b : List ℕ) (clock : ℕ) {v : ℕ} {r : Bool} → v ≡ num 272 8 b → r ≡ if (eqb (getD b 0 0) 2) (leb v clock) (eqb v 0) → r ≡ sinceRight clock (decodeRec b)
-unfolding sinceRight decodeRec
-since-right b clock a e = e ∙ rw a
 
 pub secrets-right : (b : List ℕ) (kind : ℕ) {m : ℕ} {r i p : Bool} → m ≡ secretLength kind → r ≡ allWithin 0 0 (part (24 + m) (40 - (24 + m)) b) → i ≡ allWithin 0 0 (part 256 16 b)
     → p ≡ if (eqb kind 5) true i → r && p ≡ secretsRight kind b
@@ -201,26 +203,26 @@ in-order s i t rest g7 g12 g42 g280 v life = one-test _ _ there back
         rw (p1 .0, p2 .1, p1 .1, q4 .0, q1 .0, q2 .0, q3 .0, q4 .1, p3 .1, p4 .1)
 
 -- a record outside its limits is wrong
-pub record-wrong : (c n : ℕ) (b : List ℕ) {f : Numbers} {m : ℕ} {good : Bool} → length b ≡ 512 → f ≡ numbersOf (decodeRec b) → m ≡ num 40 2 b → good ≡ limitsRight f m → good ≡ false
-    → false ≡ ownRight c n (decodeRec b) && same (take 508 b) (recBody (decodeRec b))
+pub record-wrong : (c n : ℕ) (b : List ℕ) {f : Fields} {m : ℕ} {good : Bool} → length b ≡ 512 → f ≡ fieldsOf (decodeRec b) → m ≡ num 40 2 b → good ≡ limitsRight f m → good ≡ false
+    → false ≡ recordRight c n b
 record-wrong c n b h e l g z =
-    let w : limitsRight (numbersOf (decodeRec b)) (num 40 2 b) ≡ false = rw (e, l) at (sym g ∙ z) in
+    let w : limitsRight (fieldsOf (decodeRec b)) (num 40 2 b) ≡ false = rw (e, l) at (sym g ∙ z) in
     sym (rw (own-limits c n b h, w))
 
 -- within them its bytes decide
-pub record-right : (c n : ℕ) (b : List ℕ) {f : Numbers} {m : ℕ} {good s t g v l : Bool} → length b ≡ 512 → Bytes b
-    → f ≡ numbersOf (decodeRec b) → m ≡ num 40 2 b → good ≡ limitsRight f m → good ≡ true
-    → s ≡ secretsRight (f .kind) b → t ≡ textRight (f .kind) m b → g ≡ gapsZero b → v ≡ sinceRight c (decodeRec b) → l ≡ lifeRight c n f
-    → s && t && g && v && l ≡ ownRight c n (decodeRec b) && same (take 508 b) (recBody (decodeRec b))
+pub record-right : (c n : ℕ) (b : List ℕ) {f : Fields} {m : ℕ} {good s t g v l : Bool} → length b ≡ 512 → Bytes b
+    → f ≡ fieldsOf (decodeRec b) → m ≡ num 40 2 b → good ≡ limitsRight f m → good ≡ true
+    → s ≡ secretsRight (f .kind) b → t ≡ textRight (f .kind) m b → g ≡ gapsZero b → v ≡ sinceTest c f → l ≡ lifeRight c n f
+    → s && t && g && v && l ≡ recordRight c n b
 unfolding secretsRight textRight gapsZero decodeRec
 record-right c n b h y e l g z a p q u r =
     let k : ℕ = getD b 0 0 in
     let m : ℕ = num 40 2 b in
-    let w : limitsRight (numbersOf (decodeRec b)) (num 40 2 b) ≡ true = rw (e, l) at (sym g ∙ z) in
-    let short : num 40 2 b ≤ 200 = limits-short (numbersOf (decodeRec b)) (num 40 2 b) (sym w) refl in
-    rw (a, p, q, u, r, e, l, own-limits c n b h, w, body-own b h (y .each) short)
+    let w : limitsRight (fieldsOf (decodeRec b)) (num 40 2 b) ≡ true = rw (e, l) at (sym g ∙ z) in
+    let short : num 40 2 b ≤ 200 = limits-short (fieldsOf (decodeRec b)) (num 40 2 b) (sym w) refl in
+    rw (a, p, q, u, r, e, l, own-limits c n b h, w, body-own b (omega arith) (y .each) short)
     (in-order (allWithin 0 0 (part (24 + secretLength k) (16 - secretLength k) b)) (if (eqb k aWaiting) true (allWithin 0 0 (part 256 16 b))) (lettersRight k (part 44 m b)) (allWithin 0 0 (part (44 + m) (212 - m) b))
-    (allWithin 0 0 (part 7 1 b)) (allWithin 0 0 (part 12 4 b)) (allWithin 0 0 (part 42 2 b)) (allWithin 0 0 (part 280 228 b)) (sinceRight c (decodeRec b)) (lifeRight c n (numbersOf (decodeRec b))))
+    (allWithin 0 0 (part 7 1 b)) (allWithin 0 0 (part 12 4 b)) (allWithin 0 0 (part 42 2 b)) (allWithin 0 0 (part 280 228 b)) (sinceTest c (fieldsOf (decodeRec b))) (lifeRight c n (fieldsOf (decodeRec b))))
 
 -- tests one by one, or each with all that follow
 one-by-one : (a b c d e : Bool) → a && b && c && d && e ≡ a && (b && (c && (d && e)))
@@ -229,8 +231,8 @@ one-by-one true false c d e = refl
 one-by-one true true false d e = refl
 one-by-one true true true d e = refl
 
-pub head-right : (b : List ℕ) (count : ℕ) {clock n form : ℕ} {s z : Bool} → length b ≡ 512 → Bytes b → count < 65536
+pub head-right : (b : List ℕ) (count : ℕ) {clock n form : ℕ} {s z : Bool} → 512 ≤ length b → Bytes b → count < 65536
     → clock ≡ num 8 8 b → s ≡ same (part 0 4 b) (ascii "TKTS") → n ≡ num 4 2 b → form ≡ num 6 2 b → z ≡ allWithin 0 0 (part 20 488 b)
-    → leb clock 1099511627776 && s && eqb n count && eqb form 1 && z ≡ leb (num 8 8 b) lastTime && same (take 508 b) (headBody count (num 8 8 b) (num 16 4 b))
+    → leb clock 1099511627776 && s && eqb n count && eqb form 1 && z ≡ headRight count b
 head-right b count h y g p q r s t =
     rw (p, q, r, s, t, head-own b h (y .each) count g) (one-by-one (leb (num 8 8 b) 1099511627776) (same (part 0 4 b) (ascii "TKTS")) (eqb (num 4 2 b) count) (eqb (num 6 2 b) 1) (allWithin 0 0 (part 20 488 b)))

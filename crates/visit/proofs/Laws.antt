@@ -22,7 +22,8 @@ use Rattle.protocol.proofs.Held.{slot-in}
 use Rattle.table_find.specs.declared.Found.{Found}
 use Rattle.table_find.specs.declared.Found.the-variants.{At, Nothing}
 use Rattle.table_find.specs.Searches.{foundAt}
-use Rattle.table_find.proofs.Laws.{at-slot, slots-from, found-some, found-zero, found-is, found-low, found-none}
+use Rattle.table.proofs.Laws.{at-slot, slots-from}
+use Rattle.table_find.proofs.Laws.{found-some, found-zero, found-is, found-low, found-none}
 use Rattle.visit.specs.Telling.{visitFrom, visitSlot, told}
 
 pub is-visit : (r : Rec) (s : ℕ) {k n : ℕ} → k ≡ r .kind → n ≡ r .session → eqb k 7 && eqb n s ≡ isVisit s r

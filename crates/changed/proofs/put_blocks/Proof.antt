@@ -22,10 +22,8 @@ loop-holds c = (search needs, search needs, search needs, search needs, search (
 loop-again : tie.Need-loop-again Inv-loop μ-loop
 loop-again c = (search needs, search needs, search needs, search needs, search (needs, blocks-turn))
 
-returns : tie.Need-returns Inv-loop μ-loop
-returns c = search (needs, blocks-done)
-
 pub put-blocks-spec : {M : Type 1} → statement M
 put-blocks-spec =
     tie.close
-    (tie.spec Inv-loop μ-loop loop-holds (λ c κs. search needs) (λ c. search needs) (λ c. search needs) loop-again (λ c. search needs) returns)
+    (tie.spec Inv-loop μ-loop loop-holds (λ c κs. search needs) (λ c. search needs) (λ c. search needs) loop-again (λ c. search needs)
+    (λ c. search (needs, blocks-done)))

@@ -1,6 +1,6 @@
 -- The header first; within it the slots and the count decide.
 use Rattle.block.proofs.Bytewise.{Bytes}
-use Rattle.table_judge.proofs.Whole.{front-long, front-whole, clock-low, table-wrong, table-right}
+use Rattle.table_judge.proofs.Whole.{clock-low, table-wrong, table-right}
 use borrow.Author.Needs.{needs}
 use Rattle.table_judge.proofs.blocks_lawful.Statement.{statement}
 use Rattle.table_judge.proofs.blocks_lawful.Tie as tie
@@ -9,14 +9,11 @@ use Rattle.table_judge.proofs.blocks_lawful.Tie as tie
 bytes : (c : tie.After-shared-slice-known) → Bytes (c .before .args .table .now)
 bytes c = record { each = λ i. c .shared-slice-known .given i .fits }
 
-head-right-requires : tie.Need-head-right-requires
-head-right-requires c κs = (search front-whole, search needs)
-
 slots-right-requires : tie.Need-slots-right-requires
 slots-right-requires c κs = (search needs, search clock-low, search needs)
 
 pub blocks-lawful-spec : {M : Type 1} → statement M
 blocks-lawful-spec =
     tie.close
-    (tie.spec (λ c. search front-long) (λ c. search needs) head-right-requires (λ c κs. search needs) (λ c κs. search needs) (λ c κs. search needs)
-    slots-right-requires (λ c κs. search needs) (λ c. search (table-right, bytes)) (λ c. search (table-wrong, bytes)))
+    (tie.spec (search needs) (search needs) (search needs) (search needs) (search needs) slots-right-requires (search needs)
+    (λ c. search (table-right, bytes)) (λ c. search (table-wrong, bytes)))

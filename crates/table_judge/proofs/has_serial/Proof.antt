@@ -5,7 +5,4 @@ use Rattle.table_judge.proofs.has_serial.Statement.{statement}
 use Rattle.table_judge.proofs.has_serial.Tie as tie
 
 pub has-serial-spec : {M : Type 1} → statement M
-has-serial-spec =
-    tie.close
-    (tie.spec (λ c. search needs) (λ c. search needs) (λ c. search needs) (λ c. search needs) (λ c. search needs) (λ c. search needs)
-    (λ c κs. search needs) (λ c. search serial-said))
+has-serial-spec = tie.close (tie.spec (search needs) (search needs) (λ c. search serial-said))

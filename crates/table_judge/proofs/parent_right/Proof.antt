@@ -7,5 +7,4 @@ use Rattle.table_judge.proofs.parent_right.Tie as tie
 pub parent-right-spec : {M : Type 1} → statement M
 parent-right-spec =
     tie.close
-    (tie.spec (λ c. search needs) (λ c. search needs) (λ c. search needs) (λ c κs. search needs) (λ c κs. search needs) (λ c κs. search needs)
-    (λ c κs. search needs) (λ c. search parent-right))
+    (tie.spec (search needs) (search needs) (search needs) (search needs) (search needs) (search needs) (search needs) (λ c. search parent-right))

@@ -1,5 +1,5 @@
 -- What is left to search is as good as the whole.
-use Rattle.table_judge.proofs.Slots.{Untaken, untaken-start, untaken-next, untaken-not, untaken-all}
+use Rattle.table_judge.proofs.Slots.{slot-in, Untaken, untaken-start, untaken-next, untaken-not, untaken-all}
 use Prim.Native.Nat.{_-_}
 use borrow.Author.Needs.{needs}
 use Rattle.table_judge.proofs.serial_taken.Statement.{statement}
@@ -11,20 +11,8 @@ Inv-loop table n k serial j₀ j = Untaken table n k serial j
 abbrev μ-loop : tie.MeasureT-loop
 μ-loop table n k serial j₀ j = n - j
 
-loop-holds : tie.Need-loop-holds Inv-loop μ-loop
-loop-holds c = search untaken-start
-
-returns : tie.Need-returns Inv-loop μ-loop
-returns c = search untaken-not
-
-loop-again : tie.Need-loop-again Inv-loop μ-loop
-loop-again c = search untaken-next
-
-returns-2 : tie.Need-returns-2 Inv-loop μ-loop
-returns-2 c = search untaken-all
-
 pub serial-taken-spec : {M : Type 1} → statement M
 serial-taken-spec =
     tie.close
-    (tie.spec Inv-loop μ-loop (λ c. search needs) loop-holds (λ c κs. search needs) returns (λ c. search needs) (λ c. search needs) loop-again
-    returns-2)
+    (tie.spec Inv-loop μ-loop (search needs) (λ c. search untaken-start) (λ c κs. search slot-in) (λ c. search untaken-not) (search needs)
+    (search needs) (λ c. search untaken-next) (λ c. search untaken-all))

@@ -5,6 +5,4 @@ use Rattle.table_rules.proofs.letters_right.Statement.{statement}
 use Rattle.table_rules.proofs.letters_right.Tie as tie
 
 pub letters-right-spec : {M : Type 1} → statement M
-letters-right-spec =
-    tie.close
-    (tie.spec (λ c κs. search needs) (λ c. search (needs, letters-name)) (λ c κs. search needs) (λ c. search (needs, letters-plain)))
+letters-right-spec = tie.close (tie.spec (search needs) (λ c. search (needs, letters-name)) (search needs) (λ c. search (needs, letters-plain)))

@@ -10,4 +10,4 @@ add-held : tie.Need-add-held
 add-held c = omega (arith, lifetime-most (c .before .before .args .f .kind))
 
 pub life-right-spec : {M : Type 1} → statement M
-life-right-spec = tie.close (tie.spec (λ c κs. search needs) add-held (λ c κs. search needs) (λ c κs. search needs) (λ c. search life-right))
+life-right-spec = tie.close (tie.spec (search needs) add-held (search needs) (search needs) (λ c. search life-right))

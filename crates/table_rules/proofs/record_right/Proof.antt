@@ -15,5 +15,5 @@ text-right-requires c κs = (search needs, search limits-short)
 pub record-right-spec : {M : Type 1} → statement M
 record-right-spec =
     tie.close
-    (tie.spec (λ c κs. search needs) (λ c κs. search needs) (λ c κs. search needs) (λ c κs. search needs) (λ c. search needs) text-right-requires
-    (λ c κs. search needs) (λ c κs. search needs) (λ c κs. search needs) (λ c. search (record-right, bytes)) (λ c. search record-wrong))
+    (tie.spec (search needs) (search needs) (search needs) (search needs) text-right-requires (search needs) (search needs) (search needs)
+    (λ c. search (record-right, bytes)) (λ c. search record-wrong))

@@ -18,5 +18,5 @@ part-all-within-start c = omega (arith, secret-most (c .before .before .args .ki
 pub secrets-right-spec : {M : Type 1} → statement M
 secrets-right-spec =
     tie.close
-    (tie.spec (λ c κs. search needs) add-from sub-all-within part-all-within-start (λ c. search needs) (λ c κs. search needs) (λ c. search needs)
-    (λ c. search needs) (λ c. search needs) (λ c κs. search needs) (λ c κs. search needs) (λ c. search secrets-right))
+    (tie.spec (search needs) add-from sub-all-within part-all-within-start (search needs) (search needs) (search needs) (search needs) (search needs)
+    (search needs) (search needs) (λ c. search secrets-right))

@@ -7,5 +7,5 @@ use Rattle.table_rules.proofs.text_right.Tie as tie
 pub text-right-spec : {M : Type 1} → statement M
 text-right-spec =
     tie.close
-    (tie.spec (λ c. search needs) (λ c. search needs) (λ c. search needs) (λ c. search needs) (λ c κs. search needs) (λ c. search needs)
-    (λ c. search needs) (λ c. search needs) (λ c κs. search needs) (λ c. search text-right))
+    (tie.spec (search needs) (search needs) (search needs) (search needs) (search needs) (search needs) (search needs) (search needs) (search needs)
+    (λ c. search text-right))
