@@ -131,12 +131,6 @@ pub fn next_piece(query: &[u8], place: Piece) -> Piece
     }
 }
 
-pub fn open_at<'a>(query: &'a [u8], place: Piece) -> Reader<'a>
-    ensures { λ r. ⌜ (r .query ≡ query .entry) × (r .place ≡ place) ⌝ }
-{
-    Reader { query, place }
-}
-
 // The step: the reader moved to its next piece.
 pub fn next<'a>(r: Reader<'a>) -> Reader<'a>
     ensures { λ s. ⌜ (s .query ≡ r .entry .query) × (s .place ≡ pieceAfter (now (r .entry .query)) (r .entry .place)) ⌝ }
@@ -151,7 +145,7 @@ pub fn next<'a>(r: Reader<'a>) -> Reader<'a>
 pub fn piece_after(query: &[u8], place: Piece) -> Piece
     ensures { λ r. ⌜ r ≡ pieceAfter (now (query .entry)) place ⌝ }
 {
-    next(open_at(query, place)).place
+    next(Reader { query, place }).place
 }
 
 // A piece of some name noted for one that is wanted: where it is that, it is one more, and the first one's value is kept.
