@@ -7,10 +7,10 @@ use native.Mathlib.Numerals.{add-one}
 use native.Mathlib.Omega.{arith}
 use lib.Dec.{lit<}
 use lib.ListN.{length, take, drop, set, getD, drop-of-length-le}
-use lib.Seq.{drop-cons, drop-at, take-at, sets, sets-eq, length-take-le}
-use Rattle.protocol.specs.Bytes.{leOf, bytesOf, part, num, zeros, padTo, spliced}
+use lib.Seq.{drop-cons, sets, sets-eq, length-take-le}
+use Rattle.protocol.specs.Bytes.{leOf, bytesOf, num, zeros, padTo, spliced}
 use Rattle.protocol.specs.Blocks.{houseCheck, sealed}
-use Rattle.protocol.proofs.Laws.{le-bytes, length-bytes}
+use Rattle.protocol.proofs.Laws.{length-bytes}
 use Rattle.text.proofs.Splice.{splice-append}
 
 -- one byte and the rest

@@ -1,9 +1,9 @@
 -- Texts written one after the other into one block are one text. Assumes nothing.
 use mathlib.Core.Path.{_≡_, _∙_}
-use mathlib.Core.List.{List, _++_, append-nil}
+use mathlib.Core.List.{List, _++_}
 use Prim.Native.Nat.{ℕ, _+_, _-_, _≤_}
 use native.Mathlib.Omega.{arith}
-use lib.ListN.{length, take, drop, length-append, drop-of-length-le}
+use lib.ListN.{length, take, drop, length-append}
 use lib.Seq.{take-at, drop-drop}
 use Rattle.protocol.specs.Bytes.{spliced}
 use Rattle.block.proofs.Laws.{spliced-twice}

@@ -6,12 +6,6 @@ ghost use lib.ListN.{length, take};
 ghost use Rattle.protocol.specs.Bytes.{allWithin, num, part, bytesOf, zeros, padTo, spliced};
 ghost use Rattle.protocol.specs.Blocks.{houseCheck, checkRight, sealed};
 
-fn wide(x: u8) -> u64
-    ensures { λ r. ⌜ (r ≡ x) × (r < 256) ⌝ }
-{
-    x as u64
-}
-
 // ---- fields read
 
 // One reader for every width: the highest byte, which stands last, comes first.
@@ -23,7 +17,7 @@ pub fn get(s: &[u8], at: usize, n: usize) -> u64
     let mut i = 0;
     while i < n {
         let place = n - 1 - i;
-        v = v * 256 + wide(s[at + place]);
+        v = v * 256 + text::wide(s[at + place]);
         i += 1;
     }
     v
@@ -142,7 +136,7 @@ pub fn block_check(s: &[u8]) -> u32
     let mut b: u64 = 0;
     let mut i = 0;
     while i < s.len() {
-        a += wide(s[i]);
+        a += text::wide(s[i]);
         b += a;
         i += 1;
     }

@@ -22,12 +22,6 @@ struct Unit {
     next: usize,
 }
 
-fn wide(b: u8) -> usize
-    ensures { λ r. ⌜ (r ≡ b) × (r < 256) ⌝ }
-{
-    b as usize
-}
-
 // The byte at a place, and 0 past the end.
 fn byte_at(s: &[u8], i: usize) -> u8
     ensures { λ r. ⌜ r ≡ getD (now (s .entry)) i 0 ⌝ }
@@ -41,7 +35,7 @@ fn byte_at(s: &[u8], i: usize) -> u8
 fn hex_value(b: u8) -> usize
     ensures { λ r. ⌜ Hex b r ⌝ }
 {
-    let v = wide(b);
+    let v = text::wide(b) as usize;
     if (48 <= v) & (v <= 57) {
         return v - 48;
     }
@@ -89,7 +83,7 @@ fn unit_at(s: &[u8], i: usize, in_body: bool) -> Unit
         };
     }
     Unit {
-        value: wide(b),
+        value: text::wide(b) as usize,
         next: i + 1,
     }
 }

@@ -2,7 +2,7 @@
 use mathlib.Core.Path.{_≡_, refl, sym, ap, _∙_}
 use mathlib.Core.Bool.{Bool, true, false}
 use mathlib.Core.List.{List, [], _∷_}
-use Prim.Native.Nat.{ℕ}
+use Prim.Native.Nat.{ℕ, suc}
 use native.Mathlib.Omega.{arith}
 use borrow.Author.Tests.{eq-eqb, ne-eqb}
 use lib.ListN.{length, set}
@@ -18,47 +18,38 @@ use Rattle.protocol.specs.declared.Visit.{Visit}
 use Rattle.protocol.specs.declared.Fault.{Fault}
 use Rattle.export.specs.Numbers.{methodOf, outcomeNumbers, formNumbers, visitNumbers, faultNumbers, handed, handedResult, answerHanded, finishHanded, handedVisit, visitHanded, handedForm, formHanded, handedFault, faultHanded}
 
-eight : (l : List ℕ) (a b c d e f g i : ℕ) → length l ≡ 8 → set (set (set (set (set (set (set (set l 0 a) 1 b) 2 c) 3 d) 4 e) 5 f) 6 g) 7 i ≡ a ∷ b ∷ c ∷ d ∷ e ∷ f ∷ g ∷ i ∷ []
-eight [] a b c d e f g i h = absurd (omega arith)
-eight (x₁ ∷ []) a b c d e f g i h = absurd (omega arith)
-eight (x₁ ∷ x₂ ∷ []) a b c d e f g i h = absurd (omega arith)
-eight (x₁ ∷ x₂ ∷ x₃ ∷ []) a b c d e f g i h = absurd (omega arith)
-eight (x₁ ∷ x₂ ∷ x₃ ∷ x₄ ∷ []) a b c d e f g i h = absurd (omega arith)
-eight (x₁ ∷ x₂ ∷ x₃ ∷ x₄ ∷ x₅ ∷ []) a b c d e f g i h = absurd (omega arith)
-eight (x₁ ∷ x₂ ∷ x₃ ∷ x₄ ∷ x₅ ∷ x₆ ∷ []) a b c d e f g i h = absurd (omega arith)
-eight (x₁ ∷ x₂ ∷ x₃ ∷ x₄ ∷ x₅ ∷ x₆ ∷ x₇ ∷ []) a b c d e f g i h = absurd (omega arith)
-eight (x₁ ∷ x₂ ∷ x₃ ∷ x₄ ∷ x₅ ∷ x₆ ∷ x₇ ∷ x₈ ∷ []) a b c d e f g i h = refl
-eight (x₁ ∷ x₂ ∷ x₃ ∷ x₄ ∷ x₅ ∷ x₆ ∷ x₇ ∷ x₈ ∷ x₉ ∷ l) a b c d e f g i h = absurd (omega arith)
+-- values put at the places of a list, from one on
+abbrev putFrom : List ℕ → ℕ → List ℕ → List ℕ
+putFrom l k [] = l
+putFrom l k (v ∷ vs) = putFrom (set l k v) (suc k) vs
 
-three : (l : List ℕ) (a b c : ℕ) → length l ≡ 3 → set (set (set l 0 a) 1 b) 2 c ≡ a ∷ b ∷ c ∷ []
-three [] a b c h = absurd (omega arith)
-three (x₁ ∷ []) a b c h = absurd (omega arith)
-three (x₁ ∷ x₂ ∷ []) a b c h = absurd (omega arith)
-three (x₁ ∷ x₂ ∷ x₃ ∷ []) a b c h = refl
-three (x₁ ∷ x₂ ∷ x₃ ∷ x₄ ∷ l) a b c h = absurd (omega arith)
+behind : (x : ℕ) (l : List ℕ) (k : ℕ) (vs : List ℕ) → putFrom (x ∷ l) (suc k) vs ≡ x ∷ putFrom l k vs
+behind x l k [] = refl
+behind x l k (v ∷ vs) = behind x (set l k v) (suc k) vs
 
-two : (l : List ℕ) (a b : ℕ) → length l ≡ 2 → set (set l 0 a) 1 b ≡ a ∷ b ∷ []
-two [] a b h = absurd (omega arith)
-two (x₁ ∷ []) a b h = absurd (omega arith)
-two (x₁ ∷ x₂ ∷ []) a b h = refl
-two (x₁ ∷ x₂ ∷ x₃ ∷ l) a b h = absurd (omega arith)
+-- a list that was filled is the values
+filled : (l vs : List ℕ) → length l ≡ length vs → putFrom l 0 vs ≡ vs
+filled [] [] h = refl
+filled [] (v ∷ vs) h = absurd (omega arith)
+filled (x ∷ l) [] h = absurd (omega arith)
+filled (x ∷ l) (v ∷ vs) h = behind v l 0 vs ∙ ap (λ (r : List ℕ). v ∷ r) (filled l vs (omega arith))
 
 pub outcome-put : (l : List ℕ) (o : Outcome) {k f d : ℕ} → length l ≡ 8 → k ≡ numberOf (o .answer) → f ≡ if (o .«cookie_cleared») 1 0 → d ≡ dataOf (o .answer)
     → set (set (set (set (set (set (set (set l 0 (o .refusal)) 1 k) 2 (o .status)) 3 (o .length)) 4 (o .«cookie_length»)) 5 f) 6 (o .«callback_serial»)) 7 d ≡ outcomeNumbers o
 unfolding outcomeNumbers
-outcome-put l o {k} {f} {d} h p q r = eight l (o .refusal) k (o .status) (o .length) (o .«cookie_length») f (o .«callback_serial») d h ∙ rw (p, q, r)
+outcome-put l o {k} {f} {d} h p q r = filled l (o .refusal ∷ k ∷ o .status ∷ o .length ∷ o .«cookie_length» ∷ f ∷ o .«callback_serial» ∷ d ∷ []) h ∙ rw (p, q, r)
 
 pub form-put : (l : List ℕ) (f : Form) → length l ≡ 3 → set (set (set l 0 (f .refusal)) 1 (f .«username_length»)) 2 (f .«password_length») ≡ formNumbers f
 unfolding formNumbers
-form-put l f h = three l (f .refusal) (f .«username_length») (f .«password_length») h
+form-put l f h = filled l (f .refusal ∷ f .«username_length» ∷ f .«password_length» ∷ []) h
 
 pub visit-put : (l : List ℕ) (v : Visit) → length l ≡ 2 → set (set l 0 (v .refusal)) 1 (v .length) ≡ visitNumbers v
 unfolding visitNumbers
-visit-put l v h = two l (v .refusal) (v .length) h
+visit-put l v h = filled l (v .refusal ∷ v .length ∷ []) h
 
 pub fault-put : (l : List ℕ) (f : Fault) → length l ≡ 2 → set (set l 0 (f .refusal)) 1 (f .block) ≡ faultNumbers f
 unfolding faultNumbers
-fault-put l f h = two l (f .refusal) (f .block) h
+fault-put l f h = filled l (f .refusal ∷ f .block ∷ []) h
 
 module _ (l t g : List ℕ) (post : Bool) (u b k : List ℕ) (n : ℕ) (x : List ℕ) (v : Bool) (o c : List ℕ) where
   pub answer-none : (length l ≡ 8 → ⊥) → handed false l t o c ≡ answerHanded l (inputs t g (methodOf post) u b k n x v o c)

@@ -10,7 +10,8 @@ ghost use mathlib.Core.List.{[]};
 ghost use lib.ListN.{length};
 ghost use Rattle.protocol.specs.Calls.{inputs, numbered, formatOf, checkOf};
 ghost use Rattle.protocol.specs.Panels.{made, panelOf};
-ghost use Rattle.export.specs.Numbers.{methodOf, outcomeNumbers, formNumbers, visitNumbers, faultNumbers, handed, answerHanded, finishHanded, visitHanded, formHanded, handedForm, faultHanded, handedFault};
+ghost use Rattle.export.specs.Numbers.{methodOf, outcomeNumbers, formNumbers, visitNumbers, faultNumbers};
+ghost use Rattle.export.specs.Numbers.{handed, answerHanded, finishHanded, visitHanded, formHanded, handedForm, faultHanded, handedFault};
 
 fn method_of(post: bool) -> Method
     ensures { λ r. ⌜ r ≡ methodOf post ⌝ }
@@ -86,7 +87,8 @@ pub extern "C" fn pyhtirso_read_form(
     password: &mut [u8],
     form: &mut [u64],
 ) -> bool
-    ensures { λ r. ⌜ handedForm r (now (form .exit)) (now (username .exit)) (now (password .exit)) ≡ formHanded (now (form .entry)) (now (body .entry)) (now (username .entry)) (now (password .entry)) ⌝ }
+    ensures { λ r. ⌜ handedForm r (now (form .exit)) (now (username .exit)) (now (password .exit))
+        ≡ formHanded (now (form .entry)) (now (body .entry)) (now (username .entry)) (now (password .entry)) ⌝ }
 {
     if form.len() != 3 {
         return false;
@@ -111,7 +113,10 @@ pub extern "C" fn pyhtirso_answer(
     cookie_out: &mut [u8],
     outcome: &mut [u64],
 ) -> bool
-    ensures { λ r. ⌜ handed r (now (outcome .exit)) (now (table .exit)) (now (out .exit)) (now («cookie_out» .exit)) ≡ answerHanded (now (outcome .entry)) (inputs (now (table .entry)) (now (register .entry)) (methodOf post) (now (target .entry)) (now (body .entry)) (now (cookie .entry)) time (now (random .entry)) verdict (now (out .entry)) (now («cookie_out» .entry))) ⌝ }
+    ensures { λ r. ⌜ handed r (now (outcome .exit)) (now (table .exit)) (now (out .exit)) (now («cookie_out» .exit))
+        ≡ answerHanded (now (outcome .entry))
+        (inputs (now (table .entry)) (now (register .entry)) (methodOf post) (now (target .entry)) (now (body .entry)) (now (cookie .entry))
+        time (now (random .entry)) verdict (now (out .entry)) (now («cookie_out» .entry))) ⌝ }
 {
     if outcome.len() != 8 {
         return false;
@@ -143,7 +148,8 @@ pub extern "C" fn pyhtirso_finish(
     out: &mut [u8],
     outcome: &mut [u64],
 ) -> bool
-    ensures { λ r. ⌜ handed r (now (outcome .exit)) (now (table .exit)) (now (out .exit)) [] ≡ finishHanded (now (outcome .entry)) (now (table .entry)) serial ok time (now (out .entry)) ⌝ }
+    ensures { λ r. ⌜ handed r (now (outcome .exit)) (now (table .exit)) (now (out .exit)) []
+        ≡ finishHanded (now (outcome .entry)) (now (table .entry)) serial ok time (now (out .entry)) ⌝ }
 {
     if outcome.len() != 8 {
         return false;
@@ -163,7 +169,8 @@ pub extern "C" fn pyhtirso_visit(
     out: &mut [u8],
     visit: &mut [u64],
 ) -> bool
-    ensures { λ r. ⌜ handed r (now (visit .exit)) (now (table .entry)) (now (out .exit)) [] ≡ visitHanded (now (visit .entry)) (now (table .entry)) (now (cookie .entry)) number time (now (random .entry)) (now (out .entry)) ⌝ }
+    ensures { λ r. ⌜ handed r (now (visit .exit)) (now (table .entry)) (now (out .exit)) []
+        ≡ visitHanded (now (visit .entry)) (now (table .entry)) (now (cookie .entry)) number time (now (random .entry)) (now (out .entry)) ⌝ }
 {
     if visit.len() != 2 {
         return false;

@@ -33,7 +33,8 @@ fn read_credentials(
 ) -> Form
     requires { ⌜ Readable true (length (now username)) (now body) user ⌝ }
     requires { ⌜ Readable true (length (now password)) (now body) word ⌝ }
-    ensures { λ r. ⌜ formRead r (now (username .exit)) (now (password .exit)) ≡ formGiven (valueAt true (now (body .entry)) user) (valueAt true (now (body .entry)) word) (now (username .entry)) (now (password .entry)) ⌝ }
+    ensures { λ r. ⌜ formRead r (now (username .exit)) (now (password .exit))
+        ≡ formGiven (valueAt true (now (body .entry)) user) (valueAt true (now (body .entry)) word) (now (username .entry)) (now (password .entry)) ⌝ }
 {
     let n = request::read(body, user, true, username);
     let m = request::read(body, word, true, password);

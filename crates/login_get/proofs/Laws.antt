@@ -9,7 +9,6 @@ use lib.Dec.{ltb}
 use lib.ListN.{length, take}
 use Rattle.protocol.specs.Bytes.{if, isEmpty, same, among}
 use Rattle.protocol.specs.Table.{Table, decodeTable}
-use Rattle.protocol.specs.Register.{Entry, registered}
 use Rattle.protocol.specs.Request.{valueMost, Malformed, Given, asking, asked}
 use Rattle.protocol.specs.Answers.{ErrorPage, SignedIn, RedirectTo}
 use Rattle.protocol.specs.Steps.{Brought, isNamed, slotNamed, sessionOf, roomFor, formStep, ticketStep, unknownService, wayOf, signedOn, taken, loginGet}
@@ -34,20 +33,6 @@ use Rattle.request.specs.declared.LoginQuery.{LoginQuery}
 use Rattle.request.specs.declared.LoginQuery.the-variants as query
 use Rattle.issue.specs.Offers.{Offer}
 use Rattle.issue.proofs.Laws.{none-given, some-given}
-
--- `unknown_service`
-module _ (service : List ℕ) (g : List Entry) where
-  pub unknown-none : length service ≡ 0 → false ≡ unknownService service g
-  unfolding unknownService
-  unknown-none h = rw (none-given service h)
-
-  pub unknown-known : {x : Bool} → (length service ≡ 0 → ⊥) → x ≡ registered service g → x ≡ true → false ≡ unknownService service g
-  unfolding unknownService
-  unknown-known h e z = rw (some-given service h, ← e, z)
-
-  pub unknown-other : {x : Bool} → (length service ≡ 0 → ⊥) → x ≡ registered service g → x ≡ false → true ≡ unknownService service g
-  unfolding unknownService
-  unknown-other h e z = rw (some-given service h, ← e, z)
 
 -- `way_of`
 module _ (b register service cookie : List ℕ) (renew gateway : Bool) where

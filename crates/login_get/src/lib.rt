@@ -5,32 +5,15 @@ use request::LoginQuery;
 use request::Value;
 use table_find::Found;
 ghost use mathlib.Core.Path.{_≡_};
-ghost use mathlib.Core.Bool.{true, false};
+ghost use mathlib.Core.Bool.{false};
 ghost use mathlib.Core.List.{[]};
-ghost use Prim.Native.Nat.{_≤_};
-ghost use lib.ListN.{length};
 ghost use Rattle.protocol.specs.Table.{decodeTable};
-ghost use Rattle.protocol.specs.Register.{decodeRegister, registerLawful};
 ghost use Rattle.protocol.specs.Request.{Given, asking, asked};
-ghost use Rattle.protocol.specs.Steps.{unknownService, wayOf, signedOn, loginGet};
+ghost use Rattle.protocol.specs.Steps.{wayOf, signedOn, loginGet};
 ghost use Rattle.protocol.specs.Held.{Fine, In, Lent, Done};
 ghost use Rattle.protocol.specs.Calls.{broughtBy};
 ghost use Rattle.request.specs.Value.{valueAt, Readable};
 ghost use Rattle.issue.specs.Offers.{Offer};
-
-// A service that is given and not in the register.
-pub fn unknown_service(register: &[u8], service: &[u8]) -> bool
-    requires { ⌜ registerLawful (now register) ≡ true ⌝ }
-    ensures { λ r. ⌜ r ≡ unknownService (now (service .entry)) (decodeRegister (now (register .entry))) ⌝ }
-{
-    if service.len() == 0 {
-        return false;
-    }
-    if register::registered(register, service) {
-        return false;
-    }
-    true
-}
 
 fn way_of(
     table: &[u8],
@@ -40,10 +23,11 @@ fn way_of(
     gateway: bool,
     cookie: &[u8],
 ) -> Way
-    requires { ⌜ (Fine (now table)) × (registerLawful (now register) ≡ true) ⌝ }
-    ensures { λ r. ⌜ r ≡ wayOf (asking (now (service .entry)) renew gateway) (broughtBy (now (register .entry)) (now (cookie .entry)) [] false) (decodeTable (now (table .entry))) ⌝ }
+    requires { ⌜ Fine (now table) ⌝ }
+    ensures { λ r. ⌜ r ≡ wayOf (asking (now (service .entry)) renew gateway)
+        (broughtBy (now (register .entry)) (now (cookie .entry)) [] false) (decodeTable (now (table .entry))) ⌝ }
 {
-    if unknown_service(register, service) {
+    if register::unknown_service(register, service) {
         return Way::Unknown;
     }
     if renew {
@@ -64,7 +48,8 @@ fn way_of(
 // A live session and no renew: a ticket of mark 0, since nothing was signed now.
 fn signed_on(table: &mut [u8], s: usize, service: &[u8], random: &[u8], out: &mut [u8]) -> Outcome
     requires { ⌜ (Offer (now table) (now service) (now random) (now out)) × (In s (now table)) ⌝ }
-    ensures { λ r. ⌜ Done (signedOn s (now (service .entry)) (now (random .entry)) (decodeTable (now (table .entry)))) r (now (table .exit)) (now (out .entry)) (now (out .exit)) ⌝ }
+    ensures { λ r. ⌜ Done (signedOn s (now (service .entry)) (now (random .entry)) (decodeTable (now (table .entry)))) r
+        (now (table .exit)) (now (out .entry)) (now (out .exit)) ⌝ }
 {
     if service.len() == 0 {
         return reply::say_signed_in(out);
@@ -86,8 +71,10 @@ fn take_way(
     random: &[u8],
     out: &mut [u8],
 ) -> Outcome
-    requires { ⌜ (Offer (now table) (now service) (now random) (now out)) × (registerLawful (now register) ≡ true) ⌝ }
-    ensures { λ r. ⌜ Done (loginGet (Given (asking (now (service .entry)) renew gateway)) (broughtBy (now (register .entry)) (now (cookie .entry)) (now (random .entry)) false) (decodeTable (now (table .entry)))) r (now (table .exit)) (now (out .entry)) (now (out .exit)) ⌝ }
+    requires { ⌜ Offer (now table) (now service) (now random) (now out) ⌝ }
+    ensures { λ r. ⌜ Done (loginGet (Given (asking (now (service .entry)) renew gateway))
+        (broughtBy (now (register .entry)) (now (cookie .entry)) (now (random .entry)) false) (decodeTable (now (table .entry))))
+        r (now (table .exit)) (now (out .entry)) (now (out .exit)) ⌝ }
 {
     match way_of(table, register, service, renew, gateway, cookie) {
         Way::Unknown => reply::say_page(out, 403),
@@ -97,36 +84,7 @@ fn take_way(
     }
 }
 
-// With room for the decoded service.
-fn decode_and_take(
-    table: &mut [u8],
-    register: &[u8],
-    q: &[u8],
-    service: Value,
-    renew: bool,
-    gateway: bool,
-    cookie: &[u8],
-    random: &[u8],
-    out: &mut [u8],
-    for_service: &mut [u8],
-) -> Outcome
-    requires { ⌜ (Lent (now table) (now register) (now random) (now out)) × (Readable false 200 (now q) service) × (200 ≤ length (now «for_service»)) ⌝ }
-    ensures { λ r. ⌜ Done (loginGet (Given (asking (valueAt false (now (q .entry)) service) renew gateway)) (broughtBy (now (register .entry)) (now (cookie .entry)) (now (random .entry)) false) (decodeTable (now (table .entry)))) r (now (table .exit)) (now (out .entry)) (now (out .exit)) ⌝ }
-{
-    let n = request::read(q, service, false, for_service);
-    take_way(
-        table,
-        register,
-        &for_service[..n],
-        renew,
-        gateway,
-        cookie,
-        random,
-        out,
-    )
-}
-
-// A request that is not malformed.
+// A request that is not malformed: its service is decoded.
 fn get_given(
     table: &mut [u8],
     register: &[u8],
@@ -139,20 +97,21 @@ fn get_given(
     out: &mut [u8],
 ) -> Outcome
     requires { ⌜ (Lent (now table) (now register) (now random) (now out)) × (Readable false 200 (now q) service) ⌝ }
-    ensures { λ r. ⌜ Done (loginGet (Given (asking (valueAt false (now (q .entry)) service) renew gateway)) (broughtBy (now (register .entry)) (now (cookie .entry)) (now (random .entry)) false) (decodeTable (now (table .entry)))) r (now (table .exit)) (now (out .entry)) (now (out .exit)) ⌝ }
+    ensures { λ r. ⌜ Done (loginGet (Given (asking (valueAt false (now (q .entry)) service) renew gateway))
+        (broughtBy (now (register .entry)) (now (cookie .entry)) (now (random .entry)) false) (decodeTable (now (table .entry))))
+        r (now (table .exit)) (now (out .entry)) (now (out .exit)) ⌝ }
 {
     let mut for_service = [0u8; 200];
-    decode_and_take(
+    let n = request::read(q, service, false, &mut for_service);
+    take_way(
         table,
         register,
-        q,
-        service,
+        &for_service[..n],
         renew,
         gateway,
         cookie,
         random,
         out,
-        &mut for_service,
     )
 }
 
@@ -165,7 +124,9 @@ pub fn get(
     out: &mut [u8],
 ) -> Outcome
     requires { ⌜ Lent (now table) (now register) (now random) (now out) ⌝ }
-    ensures { λ r. ⌜ Done (loginGet (asked (now (q .entry))) (broughtBy (now (register .entry)) (now (cookie .entry)) (now (random .entry)) false) (decodeTable (now (table .entry)))) r (now (table .exit)) (now (out .entry)) (now (out .exit)) ⌝ }
+    ensures { λ r. ⌜ Done (loginGet (asked (now (q .entry)))
+        (broughtBy (now (register .entry)) (now (cookie .entry)) (now (random .entry)) false) (decodeTable (now (table .entry))))
+        r (now (table .exit)) (now (out .entry)) (now (out .exit)) ⌝ }
 {
     match request::login_query(q) {
         LoginQuery::Malformed => reply::say_page(out, 400),

@@ -1,15 +1,14 @@
 -- Login, POST: the login ticket spent, the credentials judged, and what was done is the step. Assumes nothing.
 use mathlib.Core.Path.{_≡_, sym, ap, _∙_}
 use mathlib.Core.Bool.{Bool, true, false, _||_, not}
-use mathlib.Core.List.{List, [], _∷_}
+use mathlib.Core.List.{List, []}
 use Prim.Native.Nat.{ℕ, _≤_}
 use native.Mathlib.Omega.{arith}
-use borrow.Author.Tests.{ne-eqb}
 use lib.Dec.{eqb}
 use lib.ListN.{length, take}
-use Rattle.protocol.specs.Bytes.{isEmpty, same, among}
+use Rattle.protocol.specs.Bytes.{same, among}
 use Rattle.protocol.specs.Table.{decodeTable}
-use Rattle.protocol.specs.Request.{valueMost, Malformed, posted}
+use Rattle.protocol.specs.Request.{valueMost, Malformed, Given, posted}
 use Rattle.protocol.specs.Answers.{ErrorPage}
 use Rattle.protocol.specs.Steps.{Brought, Step, remove, slotNamed, formStep, unknownService, accepted, admissionOf, entered, credentials, loginPost}
 use Rattle.protocol.specs.Written.{Wrote}
@@ -32,7 +31,7 @@ use Rattle.request.specs.declared.Value.{Value}
 use Rattle.request.specs.declared.LoginBody.{LoginBody}
 use Rattle.request.specs.declared.LoginBody.the-variants as body-of
 use Rattle.session.specs.Signing.{Signing}
-use Rattle.login_post.specs.Given.{Values, given, Spent, Supplied}
+use Rattle.login_post.specs.Given.{Spent, Supplied, judged}
 
 -- `spend`
 module _ (b lt : List ℕ) {f : Found} (e : f ≡ foundAt (slotNamed 1 lt (decodeTable b))) where
@@ -86,53 +85,60 @@ module _ (b register service user cookie random : List ℕ) (k : ℕ) (absent ve
     unfolding entered
     enter-accepted z d = did-as (enters z) d
 
--- `decode_and_enter`: service and username as they were decoded
+-- `enter_given`: service and username as they were decoded
 module _ (body x x′ y y′ : List ℕ) (s u : Value) (m n : ℕ) (i : Wrote x 0 x′ m (valueAt true body s)) (j : Wrote y 0 y′ n (valueAt true body u)) where
-  pub enter-ready : (b register random o c : List ℕ) → Supplied b register random o → 64 ≤ length c → Readable true 200 body s → Readable true 64 body u → Signing b (take n y′) (take m x′) random o c
-  enter-ready b register random o c l r h k =
+  pub enter-ready : (b random o c : List ℕ) → Supplied b random o c → Readable true 200 body s → Readable true 64 body u → Signing b (take n y′) (take m x′) random o c
+  enter-ready b random o c l h k =
       record {
         fine = l .fine;
         name = rw (read-back y y′ (valueAt true body u) n j) (omega (arith, k .long, k .fits));
         short = rw (read-back x x′ (valueAt true body s) m i) (omega (arith, h .long, h .fits));
         drawn = l .drawn;
         out = l .out;
-        cookie = r;
+        cookie = l .cookie;
       }
 
   pub entered-did : (b register cookie random : List ℕ) (k : ℕ) (absent verdict : Bool) {b′ o o′ c c′ : List ℕ} {r : Outcome}
-      → Did (entered (admissionOf k (take m x′) absent (broughtBy register cookie random verdict)) (take n y′) (take m x′) (broughtBy register cookie random verdict) (decodeTable b)) r b′ o o′ c c′
-      → Did (entered (admissionOf k (valueAt true body s) absent (broughtBy register cookie random verdict)) (valueAt true body u) (valueAt true body s) (broughtBy register cookie random verdict) (decodeTable b)) r b′ o o′ c c′
+      → Did (judged k (take m x′) (take n y′) absent (broughtBy register cookie random verdict) (decodeTable b)) r b′ o o′ c c′
+      → Did (judged k (valueAt true body s) (valueAt true body u) absent (broughtBy register cookie random verdict) (decodeTable b)) r b′ o o′ c c′
   entered-did b register cookie random k absent verdict {b′} {o} {o′} {c} {c′} {r} d =
       rw (read-back x x′ (valueAt true body s) m i, read-back y y′ (valueAt true body u) n j) at d
 
--- `post_given`: on the table without the login ticket, and absent by their lengths
-pub given-did : (body : List ℕ) (s u p l : Value) (b b₁ register cookie random : List ℕ) (k : ℕ) (verdict : Bool) {b₂ o o′ c c′ : List ℕ} {r : Outcome} → Values body s u p l → Spent (valueAt true body l) b b₁ k
-    → Did (entered (admissionOf k (valueAt true body s) (eqb (u .length) 0 || eqb (p .length) 0) (broughtBy register cookie random verdict)) (valueAt true body u) (valueAt true body s) (broughtBy register cookie random verdict) (decodeTable b₁)) r b₂ o o′ c c′
-    → Did (loginPost (given body s u p l) (broughtBy register cookie random verdict) (decodeTable b)) r b₂ o o′ c c′
-unfolding loginPost credentials
-given-did body s u p l b b₁ register cookie random k verdict h t d =
-    rw
-    (empty (valueAt true body u) (u .length) (h .username .long), empty (valueAt true body p) (p .length) (h .password .long), ← t .slot, ← t .table .is)
-    d
-
 -- `post`: by what was read
 module _ (body : List ℕ) (x : LoginBody) (f : PostedIn body x) where
-  module _ {s u p l : Value} (e : x ≡ body-of.Given s u p l) where
-    pub values-in : Values body s u p l
-    unfolding valueMost among same
-    values-in =
-        let v : PostedFits body (body-of.Given s u p l) = rw e at (f .fits) in
-        record { service = v .0; username = v .1; password = v .2; lt = v .3 }
-
-    pub as-given : (b register cookie random : List ℕ) (verdict : Bool) {b′ o o′ c c′ : List ℕ} {r : Outcome} → Did (loginPost (given body s u p l) (broughtBy register cookie random verdict) (decodeTable b)) r b′ o o′ c c′
-        → Did (loginPost (posted body) (broughtBy register cookie random verdict) (decodeTable b)) r b′ o o′ c c′
-    as-given b register cookie random verdict {b′} {o} {o′} {c} {c′} {r} d =
-        let m : given body s u p l ≡ posted body = sym (ap (spelledPosted body) e) ∙ f .spells in
-        rw m at d
-
   pub as-malformed : x ≡ body-of.Malformed → (b register cookie random : List ℕ) (verdict : Bool) {o o′ c : List ℕ} {r : Outcome} → Lent b register random o → Said (ErrorPage 400) r o o′
       → Did (loginPost (posted body) (broughtBy register cookie random verdict) (decodeTable b)) r b o o′ c c
   unfolding loginPost
   as-malformed e b register cookie random verdict {c = c} h d =
       let m : Malformed ≡ posted body = sym (ap (spelledPosted body) e) ∙ f .spells in
       rw (sym m) (done-did c (only-said (h .lawful .fine) d))
+
+  module _ {s u p l : Value} (e : x ≡ body-of.Given s u p l) where
+    values : PostedFits body (body-of.Given s u p l)
+    values = rw e at (f .fits)
+
+    pub lt-readable : Readable true 64 body l
+    unfolding valueMost among same
+    lt-readable = values .3
+
+    pub service-readable : Readable true 200 body s
+    unfolding valueMost among same
+    service-readable = values .0
+
+    pub username-readable : Readable true 64 body u
+    unfolding valueMost among same
+    username-readable = values .1
+
+    -- judged on the table without the login ticket, and absent by their lengths
+    pub as-given : (b b₁ register cookie random : List ℕ) (k : ℕ) (verdict : Bool) {b₂ o o′ c c′ : List ℕ} {r : Outcome} → Spent (valueAt true body l) b b₁ k
+        → Did (judged k (valueAt true body s) (valueAt true body u) (eqb (u .length) 0 || eqb (p .length) 0) (broughtBy register cookie random verdict) (decodeTable b₁)) r b₂ o o′ c c′
+        → Did (loginPost (posted body) (broughtBy register cookie random verdict) (decodeTable b)) r b₂ o o′ c c′
+    unfolding loginPost credentials
+    as-given b b₁ register cookie random k verdict t d =
+        let m : Given (record { service = valueAt true body s; username = valueAt true body u; password = valueAt true body p; lt = valueAt true body l }) ≡ posted body = sym (ap (spelledPosted body) e) ∙ f .spells in
+        rw
+        (sym m, empty (valueAt true body u) (u .length) (values .1 .long), empty (valueAt true body p) (p .length) (values .2 .long), ← t .slot, ← t .table .is)
+        d
+
+pub supplied : (lt b b₁ register random o c : List ℕ) (k : ℕ) → Spent lt b b₁ k → Lent b register random o → 64 ≤ length c → Supplied b₁ random o c
+supplied lt b b₁ register random o c k t l h = record { fine = t .table .fine; drawn = l .drawn; out = l .room; cookie = h }

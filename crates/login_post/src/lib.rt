@@ -11,14 +11,13 @@ ghost use mathlib.Core.List.{[]};
 ghost use Prim.Native.Nat.{_≤_};
 ghost use lib.ListN.{length};
 ghost use Rattle.protocol.specs.Table.{decodeTable};
-ghost use Rattle.protocol.specs.Register.{registerLawful};
 ghost use Rattle.protocol.specs.Request.{posted};
-ghost use Rattle.protocol.specs.Steps.{admissionOf, entered, loginPost};
+ghost use Rattle.protocol.specs.Steps.{admissionOf, loginPost};
 ghost use Rattle.protocol.specs.Held.{Fine, Lent, Did};
 ghost use Rattle.protocol.specs.Calls.{broughtBy};
 ghost use Rattle.request.specs.Value.{valueAt, Readable};
 ghost use Rattle.session.specs.Signing.{Signing};
-ghost use Rattle.login_post.specs.Given.{Values, given, Spent, Supplied};
+ghost use Rattle.login_post.specs.Given.{Spent, Supplied, judged};
 
 // The live login ticket of this text is removed; its slot is answered, 0 for none.
 fn spend(table: &mut [u8], lt: &[u8]) -> usize
@@ -46,10 +45,9 @@ fn spend_given(table: &mut [u8], body: &[u8], lt: Value) -> usize
 
 // k is the slot of the spent login ticket, 0 for none; username or password may be absent.
 fn admission_of(register: &[u8], k: usize, service: &[u8], absent: bool, verdict: bool) -> Admission
-    requires { ⌜ registerLawful (now register) ≡ true ⌝ }
     ensures { λ r. ⌜ r ≡ admissionOf k (now (service .entry)) absent (broughtBy (now (register .entry)) [] [] verdict) ⌝ }
 {
-    if login_get::unknown_service(register, service) {
+    if register::unknown_service(register, service) {
         return Admission::Unknown;
     }
     if (k == 0) | absent | !verdict {
@@ -72,8 +70,10 @@ fn enter(
     out: &mut [u8],
     cookie_out: &mut [u8],
 ) -> Outcome
-    requires { ⌜ (Signing (now table) (now user) (now service) (now random) (now out) (now «cookie_out»)) × (registerLawful (now register) ≡ true) ⌝ }
-    ensures { λ r. ⌜ Did (entered (admissionOf k (now (service .entry)) absent (broughtBy (now (register .entry)) (now (cookie .entry)) (now (random .entry)) verdict)) (now (user .entry)) (now (service .entry)) (broughtBy (now (register .entry)) (now (cookie .entry)) (now (random .entry)) verdict) (decodeTable (now (table .entry)))) r (now (table .exit)) (now (out .entry)) (now (out .exit)) (now («cookie_out» .entry)) (now («cookie_out» .exit)) ⌝ }
+    requires { ⌜ Signing (now table) (now user) (now service) (now random) (now out) (now «cookie_out») ⌝ }
+    ensures { λ r. ⌜ Did (judged k (now (service .entry)) (now (user .entry)) absent
+        (broughtBy (now (register .entry)) (now (cookie .entry)) (now (random .entry)) verdict) (decodeTable (now (table .entry))))
+        r (now (table .exit)) (now (out .entry)) (now (out .exit)) (now («cookie_out» .entry)) (now («cookie_out» .exit)) ⌝ }
 {
     match admission_of(register, k, service, absent, verdict) {
         Admission::Unknown => reply::say_page(out, 403),
@@ -84,8 +84,8 @@ fn enter(
     }
 }
 
-// With room for the decoded values.
-fn decode_and_enter(
+// Service and username are decoded; the login ticket is spent.
+fn enter_given(
     table: &mut [u8],
     register: &[u8],
     k: usize,
@@ -98,14 +98,17 @@ fn decode_and_enter(
     verdict: bool,
     out: &mut [u8],
     cookie_out: &mut [u8],
-    for_service: &mut [u8],
-    for_user: &mut [u8],
 ) -> Outcome
-    requires { ⌜ (Supplied (now table) (now register) (now random) (now out)) × (64 ≤ length (now «cookie_out»)) × (Readable true 200 (now body) service) × (Readable true 64 (now body) username) × (200 ≤ length (now «for_service»)) × (64 ≤ length (now «for_user»)) ⌝ }
-    ensures { λ r. ⌜ Did (entered (admissionOf k (valueAt true (now (body .entry)) service) absent (broughtBy (now (register .entry)) (now (cookie .entry)) (now (random .entry)) verdict)) (valueAt true (now (body .entry)) username) (valueAt true (now (body .entry)) service) (broughtBy (now (register .entry)) (now (cookie .entry)) (now (random .entry)) verdict) (decodeTable (now (table .entry)))) r (now (table .exit)) (now (out .entry)) (now (out .exit)) (now («cookie_out» .entry)) (now («cookie_out» .exit)) ⌝ }
+    requires { ⌜ Supplied (now table) (now random) (now out) (now «cookie_out») ⌝ }
+    requires { ⌜ (Readable true 200 (now body) service) × (Readable true 64 (now body) username) ⌝ }
+    ensures { λ r. ⌜ Did (judged k (valueAt true (now (body .entry)) service) (valueAt true (now (body .entry)) username) absent
+        (broughtBy (now (register .entry)) (now (cookie .entry)) (now (random .entry)) verdict) (decodeTable (now (table .entry))))
+        r (now (table .exit)) (now (out .entry)) (now (out .exit)) (now («cookie_out» .entry)) (now («cookie_out» .exit)) ⌝ }
 {
-    let s = request::read(body, service, true, for_service);
-    let u = request::read(body, username, true, for_user);
+    let mut for_service = [0u8; 200];
+    let mut for_user = [0u8; 64];
+    let s = request::read(body, service, true, &mut for_service);
+    let u = request::read(body, username, true, &mut for_user);
     enter(
         table,
         register,
@@ -121,45 +124,7 @@ fn decode_and_enter(
     )
 }
 
-// A body that is not malformed: its login ticket is spent before anything else is judged.
-fn post_given(
-    table: &mut [u8],
-    register: &[u8],
-    body: &[u8],
-    service: Value,
-    username: Value,
-    password: Value,
-    lt: Value,
-    cookie: &[u8],
-    random: &[u8],
-    verdict: bool,
-    out: &mut [u8],
-    cookie_out: &mut [u8],
-) -> Outcome
-    requires { ⌜ (Lent (now table) (now register) (now random) (now out)) × (64 ≤ length (now «cookie_out»)) × (Values (now body) service username password lt) ⌝ }
-    ensures { λ r. ⌜ Did (loginPost (given (now (body .entry)) service username password lt) (broughtBy (now (register .entry)) (now (cookie .entry)) (now (random .entry)) verdict) (decodeTable (now (table .entry)))) r (now (table .exit)) (now (out .entry)) (now (out .exit)) (now («cookie_out» .entry)) (now («cookie_out» .exit)) ⌝ }
-{
-    let k = spend_given(table, body, lt);
-    let mut for_service = [0u8; 200];
-    let mut for_user = [0u8; 64];
-    decode_and_enter(
-        table,
-        register,
-        k,
-        body,
-        service,
-        username,
-        (username.length == 0) | (password.length == 0),
-        cookie,
-        random,
-        verdict,
-        out,
-        cookie_out,
-        &mut for_service,
-        &mut for_user,
-    )
-}
-
+// The login ticket is spent before anything else is judged.
 pub fn post(
     table: &mut [u8],
     register: &[u8],
@@ -171,7 +136,9 @@ pub fn post(
     cookie_out: &mut [u8],
 ) -> Outcome
     requires { ⌜ (Lent (now table) (now register) (now random) (now out)) × (64 ≤ length (now «cookie_out»)) ⌝ }
-    ensures { λ r. ⌜ Did (loginPost (posted (now (body .entry))) (broughtBy (now (register .entry)) (now (cookie .entry)) (now (random .entry)) verdict) (decodeTable (now (table .entry)))) r (now (table .exit)) (now (out .entry)) (now (out .exit)) (now («cookie_out» .entry)) (now («cookie_out» .exit)) ⌝ }
+    ensures { λ r. ⌜ Did (loginPost (posted (now (body .entry)))
+        (broughtBy (now (register .entry)) (now (cookie .entry)) (now (random .entry)) verdict) (decodeTable (now (table .entry))))
+        r (now (table .exit)) (now (out .entry)) (now (out .exit)) (now («cookie_out» .entry)) (now («cookie_out» .exit)) ⌝ }
 {
     match request::login_body(body) {
         LoginBody::Malformed => reply::say_page(out, 400),
@@ -180,19 +147,22 @@ pub fn post(
             username,
             password,
             lt,
-        } => post_given(
-            table,
-            register,
-            body,
-            service,
-            username,
-            password,
-            lt,
-            cookie,
-            random,
-            verdict,
-            out,
-            cookie_out,
-        ),
+        } => {
+            let k = spend_given(table, body, lt);
+            enter_given(
+                table,
+                register,
+                k,
+                body,
+                service,
+                username,
+                (username.length == 0) | (password.length == 0),
+                cookie,
+                random,
+                verdict,
+                out,
+                cookie_out,
+            )
+        }
     }
 }

@@ -8,7 +8,7 @@ use lib.ListN.{length, take}
 use borrow.Author.Tests.{eq-eqb, ne-eqb}
 use Rattle.protocol.specs.Bytes.{same, among}
 use Rattle.protocol.specs.Tickets.{aSession}
-use Rattle.protocol.specs.Table.{Table, decodeTable}
+use Rattle.protocol.specs.Table.{decodeTable}
 use Rattle.protocol.specs.Register.{Entry, registered}
 use Rattle.protocol.specs.Request.{Malformed, Given, leaving, valueMost}
 use Rattle.protocol.specs.Answers.{ErrorPage, SignedOut}

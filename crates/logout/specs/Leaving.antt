@@ -1,17 +1,15 @@
 -- What logout is lent, and what it reads besides its parameter.
-use mathlib.Core.Path.{_≡_}
-use mathlib.Core.Bool.{true, false}
+use mathlib.Core.Bool.{false}
 use mathlib.Core.List.{List, []}
 use Prim.Native.Nat.{ℕ, _≤_}
 use lib.ListN.{length}
-use Rattle.protocol.specs.Register.{decodeRegister, registerLawful}
+use Rattle.protocol.specs.Register.{decodeRegister}
 use Rattle.protocol.specs.Steps.{Brought}
 use Rattle.protocol.specs.Held.{Fine}
 
 -- what logout is lent
-pub record Given (table register out : List ℕ) : Type 0 where
+pub record Given (table out : List ℕ) : Type 0 where
   pub fine : Fine table
-  pub panels : registerLawful register ≡ true
   pub room : 8192 ≤ length out
 
 -- what it reads besides its parameter; it draws no random bytes and asks no verdict

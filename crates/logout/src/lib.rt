@@ -4,12 +4,11 @@ use protocol::Outcome;
 use request::LogoutQuery;
 use request::Value;
 use table_find::Found;
-ghost use mathlib.Core.Path.{_≡_};
 ghost use mathlib.Core.Bool.{true, false};
 ghost use Prim.Native.Nat.{_≤_};
 ghost use lib.ListN.{length};
 ghost use Rattle.protocol.specs.Table.{decodeTable};
-ghost use Rattle.protocol.specs.Register.{decodeRegister, registerLawful};
+ghost use Rattle.protocol.specs.Register.{decodeRegister};
 ghost use Rattle.protocol.specs.Request as read;
 ghost use Rattle.protocol.specs.Answers.{SignedOut};
 ghost use Rattle.protocol.specs.Steps.{withoutSession, linkTo, logout};
@@ -30,7 +29,7 @@ fn end_named(table: &mut [u8], cookie: &[u8])
 
 // The page, with a link back to a registered service.
 fn say_link(register: &[u8], url: &[u8], out: &mut [u8]) -> Outcome
-    requires { ⌜ (registerLawful (now register) ≡ true) × (length (now url) ≤ 200) × (8192 ≤ length (now out)) ⌝ }
+    requires { ⌜ (length (now url) ≤ 200) × (8192 ≤ length (now out)) ⌝ }
     ensures { λ r. ⌜ Said (SignedOut (linkTo (now (url .entry)) (decodeRegister (now (register .entry))))) r (now (out .entry)) (now (out .exit)) ⌝ }
 {
     if register::registered(register, url) {
@@ -40,39 +39,40 @@ fn say_link(register: &[u8], url: &[u8], out: &mut [u8]) -> Outcome
 }
 
 fn leave(table: &mut [u8], register: &[u8], url: &[u8], cookie: &[u8], out: &mut [u8]) -> Outcome
-    requires { ⌜ (Given (now table) (now register) (now out)) × (length (now url) ≤ 200) ⌝ }
-    ensures { λ r. ⌜ Done (logout (read.Given (now (url .entry))) (leaving (now (register .entry)) (now (cookie .entry))) (decodeTable (now (table .entry)))) r (now (table .exit)) (now (out .entry)) (now (out .exit)) ⌝ }
+    requires { ⌜ (Given (now table) (now out)) × (length (now url) ≤ 200) ⌝ }
+    ensures { λ r. ⌜ Done (logout (read.Given (now (url .entry))) (leaving (now (register .entry)) (now (cookie .entry)))
+        (decodeTable (now (table .entry)))) r (now (table .exit)) (now (out .entry)) (now (out .exit)) ⌝ }
 {
     end_named(table, cookie);
     reply::with_cleared(say_link(register, url, out), true)
 }
 
-// The url is decoded into a lent buffer.
+// The url is decoded.
 fn leave_for(
     table: &mut [u8],
     register: &[u8],
     q: &[u8],
     url: Value,
     cookie: &[u8],
-    buf: &mut [u8],
     out: &mut [u8],
 ) -> Outcome
-    requires { ⌜ (Given (now table) (now register) (now out)) × (Readable false 200 (now q) url) × (200 ≤ length (now buf)) ⌝ }
-    ensures { λ r. ⌜ Done (logout (read.Given (valueAt false (now (q .entry)) url)) (leaving (now (register .entry)) (now (cookie .entry))) (decodeTable (now (table .entry)))) r (now (table .exit)) (now (out .entry)) (now (out .exit)) ⌝ }
+    requires { ⌜ (Given (now table) (now out)) × (Readable false 200 (now q) url) ⌝ }
+    ensures { λ r. ⌜ Done (logout (read.Given (valueAt false (now (q .entry)) url))
+        (leaving (now (register .entry)) (now (cookie .entry))) (decodeTable (now (table .entry)))) r (now (table .exit))
+        (now (out .entry)) (now (out .exit)) ⌝ }
 {
-    let n = request::read(q, url, false, buf);
+    let mut buf = [0u8; 200];
+    let n = request::read(q, url, false, &mut buf);
     leave(table, register, &buf[..n], cookie, out)
 }
 
 pub fn logout(table: &mut [u8], register: &[u8], q: &[u8], cookie: &[u8], out: &mut [u8]) -> Outcome
-    requires { ⌜ Given (now table) (now register) (now out) ⌝ }
-    ensures { λ r. ⌜ Done (logout (read.leaving (now (q .entry))) (leaving (now (register .entry)) (now (cookie .entry))) (decodeTable (now (table .entry)))) r (now (table .exit)) (now (out .entry)) (now (out .exit)) ⌝ }
+    requires { ⌜ Given (now table) (now out) ⌝ }
+    ensures { λ r. ⌜ Done (logout (read.leaving (now (q .entry))) (leaving (now (register .entry)) (now (cookie .entry)))
+        (decodeTable (now (table .entry)))) r (now (table .exit)) (now (out .entry)) (now (out .exit)) ⌝ }
 {
     match request::logout_query(q) {
         LogoutQuery::Malformed => reply::say_page(out, 400),
-        LogoutQuery::Given { url } => {
-            let mut buf = [0u8; 200];
-            leave_for(table, register, q, url, cookie, &mut buf, out)
-        }
+        LogoutQuery::Given { url } => leave_for(table, register, q, url, cookie, out),
     }
 }

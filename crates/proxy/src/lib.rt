@@ -4,7 +4,6 @@ use request::ProxyQuery;
 use request::Value;
 use table_find::Found;
 use xml::Code;
-ghost use mathlib.Core.Path.{_≡_};
 ghost use mathlib.Core.Bool.{false};
 ghost use Prim.Native.Nat.{_≤_};
 ghost use lib.ListN.{length};
@@ -25,7 +24,8 @@ fn under(
     out: &mut [u8],
 ) -> Outcome
     requires { ⌜ (Lent (now table) (now register) (now random) (now out)) × (Live k (now table)) × (length (now target) ≤ 200) ⌝ }
-    ensures { λ r. ⌜ Done (proxyBy k (now (target .entry)) (bringing (now (register .entry)) (now (random .entry))) (decodeTable (now (table .entry)))) r (now (table .exit)) (now (out .entry)) (now (out .exit)) ⌝ }
+    ensures { λ r. ⌜ Done (proxyBy k (now (target .entry)) (bringing (now (register .entry)) (now (random .entry)))
+        (decodeTable (now (table .entry)))) r (now (table .exit)) (now (out .entry)) (now (out .exit)) ⌝ }
 {
     if register::registered(register, target) {
         if table_find::has_room(table, 1) {
@@ -45,7 +45,9 @@ fn by_grant(
     out: &mut [u8],
 ) -> Outcome
     requires { ⌜ (Lent (now table) (now register) (now random) (now out)) × (length (now target) ≤ 200) ⌝ }
-    ensures { λ r. ⌜ Done (proxyFor (now (pgt .entry)) (now (target .entry)) (bringing (now (register .entry)) (now (random .entry))) (decodeTable (now (table .entry)))) r (now (table .exit)) (now (out .entry)) (now (out .exit)) ⌝ }
+    ensures { λ r. ⌜ Done (proxyFor (now (pgt .entry)) (now (target .entry))
+        (bringing (now (register .entry)) (now (random .entry))) (decodeTable (now (table .entry)))) r (now (table .exit))
+        (now (out .entry)) (now (out .exit)) ⌝ }
 {
     match table_find::find_named(table, ticket::Grant::KIND, pgt) {
         Found::At(k) => under(table, k, register, target, random, out),
@@ -53,7 +55,7 @@ fn by_grant(
     }
 }
 
-// Both values are decoded into lent buffers.
+// Both values are decoded.
 fn ask(
     table: &mut [u8],
     register: &[u8],
@@ -61,15 +63,17 @@ fn ask(
     pgt: Value,
     target: Value,
     random: &[u8],
-    for_pgt: &mut [u8],
-    for_target: &mut [u8],
     out: &mut [u8],
 ) -> Outcome
-    requires { ⌜ (Lent (now table) (now register) (now random) (now out)) × (Values (now q) pgt target) × (64 ≤ length (now «for_pgt»)) × (200 ≤ length (now «for_target»)) ⌝ }
-    ensures { λ r. ⌜ Done (proxyFor (valueAt false (now (q .entry)) pgt) (valueAt false (now (q .entry)) target) (bringing (now (register .entry)) (now (random .entry))) (decodeTable (now (table .entry)))) r (now (table .exit)) (now (out .entry)) (now (out .exit)) ⌝ }
+    requires { ⌜ (Lent (now table) (now register) (now random) (now out)) × (Values (now q) pgt target) ⌝ }
+    ensures { λ r. ⌜ Done (proxyFor (valueAt false (now (q .entry)) pgt) (valueAt false (now (q .entry)) target)
+        (bringing (now (register .entry)) (now (random .entry))) (decodeTable (now (table .entry)))) r (now (table .exit))
+        (now (out .entry)) (now (out .exit)) ⌝ }
 {
-    let p = request::read(q, pgt, false, for_pgt);
-    let t = request::read(q, target, false, for_target);
+    let mut for_pgt = [0u8; 64];
+    let mut for_target = [0u8; 200];
+    let p = request::read(q, pgt, false, &mut for_pgt);
+    let t = request::read(q, target, false, &mut for_target);
     by_grant(
         table,
         register,
@@ -80,36 +84,10 @@ fn ask(
     )
 }
 
-fn ask_in(
-    table: &mut [u8],
-    register: &[u8],
-    q: &[u8],
-    pgt: Value,
-    target: Value,
-    random: &[u8],
-    out: &mut [u8],
-) -> Outcome
-    requires { ⌜ (Lent (now table) (now register) (now random) (now out)) × (Values (now q) pgt target) ⌝ }
-    ensures { λ r. ⌜ Done (proxyFor (valueAt false (now (q .entry)) pgt) (valueAt false (now (q .entry)) target) (bringing (now (register .entry)) (now (random .entry))) (decodeTable (now (table .entry)))) r (now (table .exit)) (now (out .entry)) (now (out .exit)) ⌝ }
-{
-    let mut for_pgt = [0u8; 64];
-    let mut for_target = [0u8; 200];
-    ask(
-        table,
-        register,
-        q,
-        pgt,
-        target,
-        random,
-        &mut for_pgt,
-        &mut for_target,
-        out,
-    )
-}
-
 pub fn proxy(table: &mut [u8], register: &[u8], q: &[u8], random: &[u8], out: &mut [u8]) -> Outcome
     requires { ⌜ Lent (now table) (now register) (now random) (now out) ⌝ }
-    ensures { λ r. ⌜ Done (proxy (wanted (now (q .entry))) (bringing (now (register .entry)) (now (random .entry))) (decodeTable (now (table .entry)))) r (now (table .exit)) (now (out .entry)) (now (out .exit)) ⌝ }
+    ensures { λ r. ⌜ Done (proxy (wanted (now (q .entry))) (bringing (now (register .entry)) (now (random .entry)))
+        (decodeTable (now (table .entry)))) r (now (table .exit)) (now (out .entry)) (now (out .exit)) ⌝ }
 {
     match request::proxy_query(q) {
         ProxyQuery::Malformed => reply::say_proxy_failure(out, Code::InvalidRequest),
@@ -117,7 +95,7 @@ pub fn proxy(table: &mut [u8], register: &[u8], q: &[u8], random: &[u8], out: &m
             if (pgt.length == 0) | (target.length == 0) {
                 return reply::say_proxy_failure(out, Code::InvalidRequest);
             }
-            ask_in(table, register, q, pgt, target, random, out)
+            ask(table, register, q, pgt, target, random, out)
         }
     }
 }

@@ -12,7 +12,8 @@ use Rattle.protocol.specs.Bytes.{if, same, upTo, part}
 use Rattle.protocol.specs.Request.{pieces, nameIn, valueIn, countNamed, firstNamed, occurrences, rawValue, pathNamed, pathPart, queryPart}
 use Rattle.protocol.specs.declared.Path.{Path}
 use Rattle.protocol.proofs.Pieces.{take-upTo, past-drop}
-use Rattle.query.specs.Piece.{FirstAt, pieceAt, pieceAfter}
+use Rattle.text.specs.First.{FirstAt}
+use Rattle.query.specs.Piece.{pieceAt, pieceAfter}
 use Rattle.query.specs.Place.{Inside, notedBy, rawIn, Noted, Walked}
 use Rattle.query.specs.declared.Piece.{Piece}
 use Rattle.query.specs.declared.Place.{Place}

@@ -13,7 +13,8 @@ use Rattle.protocol.specs.Bytes.{if, upTo, past, cutAt, part}
 use Rattle.protocol.specs.Request.{kept, pieces, nameIn, valueIn}
 use Rattle.protocol.proofs.Pieces.{pieces-step, pieces-none, take-upTo, past-drop}
 use Rattle.protocol.proofs.Laws.{drop-step}
-use Rattle.query.specs.Piece.{FirstAt, leading, pieceAt, pieceFrom, pieceAfter}
+use Rattle.text.specs.First.{FirstAt}
+use Rattle.query.specs.Piece.{leading, pieceAt, pieceFrom, pieceAfter}
 use Rattle.query.specs.declared.Piece.{Piece}
 
 pub drop-end : (s : List ℕ) (i : ℕ) → length s ≤ i → drop i s ≡ []
@@ -41,27 +42,7 @@ past-last x s = go (ltb (length (upTo x s)) (length s)) refl
         let l : length s ≤ length (upTo x s) = ltb-false _ (length s) e in
         drop-end s (length s - length (past x s)) (omega (arith, past-length x s)) ∙ sym (past-drop x s ∙ drop-end s (suc (length (upTo x s))) (omega arith))
 
--- `first_at`: the length up to b is what was passed and what is left up to it
-module _ (s : List ℕ) (b i : ℕ) (inv : length (upTo b s) ≡ i + length (upTo b (drop i s))) where
-  pub first-hit : i < length s → getD s i 0 ≡ b → FirstAt b s i
-  unfolding upTo
-  first-hit h e =
-      let z : upTo b (drop i s) ≡ [] = simp (drop-step s i h, eq-eqb _ _ e) in
-      record { is = omega (arith, ap length z); inside = omega arith }
-
-  pub first-miss : i < length s → (getD s i 0 ≡ b → ⊥) → length (upTo b s) ≡ (i + 1) + length (upTo b (drop (i + 1) s))
-  unfolding upTo
-  first-miss h n =
-      let z : upTo b (drop i s) ≡ getD s i 0 ∷ upTo b (drop (i + 1) s) = simp (drop-step s i h, ne-eqb _ _ n) in
-      omega (arith, ap length z)
-
-  pub first-none : length s ≤ i → i ≤ length s → FirstAt b s i
-  unfolding upTo
-  first-none h k =
-      let z : upTo b (drop i s) ≡ [] = ap (upTo b) (drop-end s i h) in
-      record { is = omega (arith, ap length z); inside = k }
-
--- `skip_empty`: the same for the `&` that lead
+-- `skip_empty`: the `&` that lead are those passed and those that lead what is left
 module _ (q : List ℕ) (at i : ℕ) (inv : at + leading (drop at q) ≡ i + leading (drop i q)) where
   pub skip-on : i < length q → getD q i 0 ≡ 38 → at + leading (drop at q) ≡ (i + 1) + leading (drop (i + 1) q)
   unfolding leading

@@ -1,18 +1,12 @@
 -- A reader's step: the piece after a piece. It runs to the next `&` or to the end, its name to its first `=` or to its end, and its value
 -- is what follows. Where no piece is left, that is an empty one.
-use mathlib.Core.Path.{_≡_}
 use mathlib.Core.List.{List, [], _∷_}
-use Prim.Native.Nat.{ℕ, suc, _+_, _-_, _≤_}
+use Prim.Native.Nat.{ℕ, suc, _+_, _-_}
 use lib.Dec.{eqb}
 use lib.ListN.{length, drop}
 use Rattle.protocol.specs.Bytes.{if, upTo}
 use Rattle.protocol.specs.Request.{nameIn, valueIn}
 use Rattle.query.specs.declared.Piece.{Piece}
-
--- r is the place of the first b of a text, or its length
-pub record FirstAt (b : ℕ) (s : List ℕ) (r : ℕ) : Type 0 where
-  pub is : r ≡ length (upTo b s)
-  pub inside : r ≤ length s
 
 -- how many `&` lead a text: the empty pieces, which are skipped
 unfoldable pub leading : List ℕ → ℕ

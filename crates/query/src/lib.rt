@@ -8,7 +8,7 @@ ghost use Prim.Native.Nat.{_+_, _-_, _<_};
 ghost use lib.ListN.{drop};
 ghost use Rattle.protocol.specs.Bytes.{same, part};
 ghost use Rattle.protocol.specs.Request.{pathNamed, pathPart, queryPart};
-ghost use Rattle.query.specs.Piece.{FirstAt, leading, pieceAfter};
+ghost use Rattle.query.specs.Piece.{leading, pieceAfter};
 ghost use Rattle.query.specs.Place.{Inside, notedBy, Walked};
 
 // A piece: its name runs from `start` to `mid`, its raw value from `value` to `end`. An empty one stands for none.
@@ -65,25 +65,11 @@ pub fn path_named(path: &[u8]) -> Path
     Path::Unknown
 }
 
-// The place of the first b, or the text's length where there is none.
-fn first_at(text: &[u8], b: u8) -> usize
-    ensures { λ r. ⌜ FirstAt b (now (text .entry)) r ⌝ }
-{
-    let mut i = 0;
-    while i < text.len() {
-        if text[i] == b {
-            return i;
-        }
-        i += 1;
-    }
-    i
-}
-
 // The path ends before the first `?`.
 pub fn path_of(target: &[u8]) -> Path
     ensures { λ r. ⌜ r ≡ pathNamed (pathPart (now (target .entry))) ⌝ }
 {
-    let n = first_at(target, b'?');
+    let n = text::first_at(target, b'?');
     path_named(&target[..n])
 }
 
@@ -91,7 +77,7 @@ pub fn path_of(target: &[u8]) -> Path
 pub fn query_of<'a>(target: &'a [u8]) -> &'a [u8]
     ensures { λ r. ⌜ now r ≡ queryPart (now (target .entry)) ⌝ }
 {
-    let n = first_at(target, b'?');
+    let n = text::first_at(target, b'?');
     if n < target.len() {
         return &target[n + 1..];
     }
@@ -118,9 +104,9 @@ pub fn next_piece(query: &[u8], place: Piece) -> Piece
 {
     let start = skip_empty(query, place.end);
     if start < query.len() {
-        let n = first_at(&query[start..], b'&');
+        let n = text::first_at(&query[start..], b'&');
         let end = start + n;
-        let m = first_at(&query[start..end], b'=');
+        let m = text::first_at(&query[start..end], b'=');
         let mid = start + m;
         if mid < end {
             return Piece {
@@ -145,12 +131,6 @@ pub fn next_piece(query: &[u8], place: Piece) -> Piece
     }
 }
 
-pub fn open_at<'a>(query: &'a [u8], place: Piece) -> Reader<'a>
-    ensures { λ r. ⌜ (r .query ≡ query .entry) × (r .place ≡ place) ⌝ }
-{
-    Reader { query, place }
-}
-
 // The step: the reader moved to its next piece.
 pub fn next<'a>(r: Reader<'a>) -> Reader<'a>
     ensures { λ s. ⌜ (s .query ≡ r .entry .query) × (s .place ≡ pieceAfter (now (r .entry .query)) (r .entry .place)) ⌝ }
@@ -165,7 +145,7 @@ pub fn next<'a>(r: Reader<'a>) -> Reader<'a>
 pub fn piece_after(query: &[u8], place: Piece) -> Piece
     ensures { λ r. ⌜ r ≡ pieceAfter (now (query .entry)) place ⌝ }
 {
-    next(open_at(query, place)).place
+    next(Reader { query, place }).place
 }
 
 // A piece of some name noted for one that is wanted: where it is that, it is one more, and the first one's value is kept.

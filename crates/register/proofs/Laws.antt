@@ -5,33 +5,20 @@ use mathlib.Core.List.{List, [], _∷_}
 use Prim.Native.Nat.{ℕ, zero, suc, _+_, _-_, _*_, _/_, _≤_, _<_}
 use native.Mathlib.Nat.{sub-zero, zero-add}
 use native.Mathlib.Omega.{arith}
-use borrow.Author.Tests.{eq-eqb, ne-eqb, lt-ltb, ltb-true}
+use borrow.Author.Tests.{ne-eqb, lt-ltb, ltb-true}
 use lib.Dec.{eqb, leb, ltb}
-use lib.ListN.{length, take, drop, getD, length-take, length-drop, drop-of-length-le}
+use lib.ListN.{length, take, drop, length-take, length-drop}
 use lib.Seq.{drop-drop, take-all, length-take-le}
 use Rattle.protocol.specs.Bytes.{if, ascii, same, within, allWithin, holds, part, blocks}
 use Rattle.protocol.specs.Blocks.{checkRight}
 use Rattle.protocol.specs.Register.{Entry, entryRight, decodeEntry, decodeRegister, addressRight, registerShape, registerLawful, registered, callbackOf}
 use Rattle.protocol.specs.Panels.{entry, panelRight, serviceIn, atFault, faultFrom, fault, faultOf}
 use Rattle.protocol.specs.declared.Fault.{Fault}
-use Rattle.protocol.proofs.Laws.{drop-step, one-test}
+use Rattle.protocol.proofs.Laws.{one-test}
 use Rattle.protocol.proofs.Faults.{behind, said, faults-none, faults-some, fault-refusal}
 use Rattle.text.proofs.Laws.{lengths-differ}
+use Rattle.protocol.specs.Steps.{unknownService}
 use Rattle.register.specs.Blockwise.{secure, restRight, placeOf}
-
--- `has_byte`
-module _ (b : ℕ) (s : List ℕ) (i : ℕ) (inv : holds b (drop i s) ≡ holds b s) where
-  pub has-hit : i < length s → getD s i 0 ≡ b → true ≡ holds b s
-  unfolding holds
-  has-hit h e = sym (sym inv ∙ simp (drop-step s i h, eq-eqb _ _ e))
-
-  pub has-miss : i < length s → (getD s i 0 ≡ b → ⊥) → holds b (drop (i + 1) s) ≡ holds b s
-  unfolding holds
-  has-miss h n = sym (sym inv ∙ simp (drop-step s i h, ne-eqb _ _ n))
-
-  pub has-none : length s ≤ i → false ≡ holds b s
-  unfolding holds
-  has-none h = sym (sym inv ∙ ap (holds b) (drop-of-length-le s h))
 
 -- `address_right`
 pub address-as : (s : List ℕ) (r h : Bool) → r ≡ allWithin 33 126 s → h ≡ holds 35 s → r && not h ≡ addressRight s
@@ -256,3 +243,14 @@ lawful-as b r e = ap (λ (x : Fault). eqb (x .refusal) 0) e ∙ rw (fault-refusa
     go : (x : Bool) → eqb (if x 0 3) 0 ≡ x
     go true = refl
     go false = refl
+
+-- `unknown_service`: none is given, or one that is known or not
+pub unknown-none : (s : List ℕ) (g : List Entry) → length s ≡ 0 → false ≡ unknownService s g
+unfolding unknownService
+unknown-none [] g h = refl
+unknown-none (x ∷ s) g h = absurd (omega arith)
+
+pub unknown-some : (s : List ℕ) (g : List Entry) (r : Bool) → (length s ≡ 0 → ⊥) → r ≡ registered s g → not r ≡ unknownService s g
+unfolding unknownService
+unknown-some [] g r h e = absurd (h refl)
+unknown-some (x ∷ s) g r h e = rw e

@@ -5,31 +5,20 @@ use protocol::Fault;
 ghost use mathlib.Core.Path.{_≡_};
 ghost use Prim.Native.Nat.{_+_, _*_, _/_, _≤_};
 ghost use lib.ListN.{length};
-ghost use Rattle.protocol.specs.Bytes.{holds, num, part};
-ghost use Rattle.protocol.specs.Register.{addressRight, entryRight, encodeEntry, decodeEntry, decodeRegister, registerShape, registerLawful, registered, callbackOf};
+ghost use Rattle.protocol.specs.Bytes.{num, part};
+ghost use Rattle.protocol.specs.Register.{addressRight, entryRight, encodeEntry, decodeEntry, decodeRegister};
+ghost use Rattle.protocol.specs.Register.{registerShape, registerLawful, registered, callbackOf};
 ghost use Rattle.protocol.specs.Panels.{entry, panelRefusal, made, panelOf, panelRight, serviceIn, atFault, faultFrom, faultOf};
+ghost use Rattle.protocol.specs.Steps.{unknownService};
 ghost use Rattle.register.specs.Blockwise.{secure, restRight, placeOf};
 
 // ---- the rules of an entry
-
-fn has_byte(s: &[u8], b: u8) -> bool
-    ensures { λ r. ⌜ r ≡ holds b (now (s .entry)) ⌝ }
-{
-    let mut i = 0;
-    while i < s.len() {
-        if s[i] == b {
-            return true;
-        }
-        i += 1;
-    }
-    false
-}
 
 // Bytes 33 to 126, no `#`.
 fn address_right(s: &[u8]) -> bool
     ensures { λ r. ⌜ r ≡ addressRight (now (s .entry)) ⌝ }
 {
-    block::all_within(s, 33, 126) & !has_byte(s, b'#')
+    block::all_within(s, 33, 126) & !text::has_byte(s, b'#')
 }
 
 // A callback that is not empty begins `https://`.
@@ -137,6 +126,16 @@ pub fn registered(b: &[u8], service: &[u8]) -> bool
     ensures { λ r. ⌜ r ≡ registered (now (service .entry)) (decodeRegister (now (b .entry))) ⌝ }
 {
     place_of(b, service) < b.len() / 512
+}
+
+// A service that is given and not in the register.
+pub fn unknown_service(b: &[u8], service: &[u8]) -> bool
+    ensures { λ r. ⌜ r ≡ unknownService (now (service .entry)) (decodeRegister (now (b .entry))) ⌝ }
+{
+    if service.len() == 0 {
+        return false;
+    }
+    !registered(b, service)
 }
 
 // Empty where the service is not registered.

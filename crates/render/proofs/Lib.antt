@@ -1,4 +1,3 @@
 -- Laws of the texts that templates give, of addresses, and the examples of document 01 that are about them.
-pub mod Marks
 pub mod Texts
 pub mod Worked

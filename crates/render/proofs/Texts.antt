@@ -6,7 +6,7 @@ use Prim.Native.Nat.{ℕ, _≤_}
 use native.Mathlib.Omega.{arith}
 use lib.ListN.{length}
 use Rattle.protocol.specs.Bytes.{if, ascii, holds, digits}
-use Rattle.protocol.specs.Answers.{ErrorPage, SignedIn, SignedOut, FormPage, RedirectTo, YesNo, CallbackTo, pageHead, formText, extended, callbackText, replyText}
+use Rattle.protocol.specs.Answers.{ErrorPage, SignedIn, SignedOut, FormPage, RedirectTo, YesNo, pageHead, formText, extended, callbackText, replyText}
 use Rattle.protocol.specs.Written.{Room, Wrote}
 use Rattle.protocol.proofs.Sizes.{error, out-page, form, redirect, call}
 use Rattle.text.proofs.Splice.{wrote-as, room-as, room-first, room-next, then}

@@ -1,10 +1,8 @@
 // Bytes out: pages, redirects, `yes` and `no`, and the callback's address. Each is written from the start of the output, the
 // rest is left as it was, and none needs more than the 8,192 bytes that the output has.
-ghost use mathlib.Core.Path.{_≡_};
 ghost use mathlib.Core.List.{[]};
 ghost use Prim.Native.Nat.{_≤_};
 ghost use lib.ListN.{length};
-ghost use Rattle.protocol.specs.Bytes.{holds};
 ghost use Rattle.protocol.specs.Answers.{replyText, callbackText, extended, ErrorPage, SignedIn, SignedOut, FormPage, RedirectTo, YesNo};
 ghost use Rattle.protocol.specs.Written.{Room, Wrote};
 
@@ -87,26 +85,12 @@ pub fn put_form(out: &mut [u8], status: u32, lt: &[u8], service: &[u8]) -> usize
     )
 }
 
-// A `?` stands in the address.
-fn has_question_mark(url: &[u8]) -> bool
-    ensures { λ r. ⌜ r ≡ holds 63 (now (url .entry)) ⌝ }
-{
-    let mut i = 0;
-    while i < url.len() {
-        if url[i] == b'?' {
-            return true;
-        }
-        i += 1;
-    }
-    false
-}
-
 // An address that more is put behind: `?` after it, or `&` if it has a `?`.
 fn put_marked(out: &mut [u8], url: &[u8]) -> usize
     requires { ⌜ Room (now out) 0 (extended (now url) []) ⌝ }
     ensures { λ r. ⌜ Wrote (now (out .entry)) 0 (now (out .exit)) r (extended (now (url .entry)) []) ⌝ }
 {
-    if has_question_mark(url) {
+    if text::has_byte(url, b'?') {
         return template::put_template(out, 0, b"{&", 0, url, b"", b"");
     }
     template::put_template(out, 0, b"{?", 0, url, b"", b"")

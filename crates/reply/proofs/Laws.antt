@@ -6,7 +6,7 @@ use Prim.Native.Nat.{ℕ, _≤_}
 use native.Mathlib.Omega.{arith}
 use lib.ListN.{length}
 use Rattle.protocol.specs.Bytes.{if, isEmpty}
-use Rattle.protocol.specs.Answers.{Code, Reply, ErrorPage, SignedIn, SignedOut, FormPage, RedirectTo, YesNo, Success, Failure, ProxySuccess, ProxyFailure, CallbackTo, replyText, replyAnswer, dataOf, callbackText}
+use Rattle.protocol.specs.Answers.{Reply, RedirectTo, Success, CallbackTo, replyText, replyAnswer, dataOf, callbackText}
 use Rattle.protocol.specs.Calls.{outcomeWith}
 use Rattle.protocol.specs.Written.{Wrote}
 use Rattle.protocol.specs.Held.{Said}
@@ -20,55 +20,19 @@ some-ticket [] h = absurd (omega arith)
 some-ticket (b ∷ t) h = refl
 
 module _ {n : ℕ} {r : Outcome} {o o′ : List ℕ} where
-  said : (p : Reply) → Wrote o 0 o′ n (replyText p) → r ≡ toldOf (replyAnswer p) n → Said p r o o′
+  pub said : (p : Reply) → Wrote o 0 o′ n (replyText p) → r ≡ toldOf (replyAnswer p) n → Said p r o o′
   unfolding outcomeWith toldOf
   said p w q =
       let m : n ≡ length (replyText p) = omega (arith, w .moves) in
       record { outcome = q ∙ rw m; out = w .holds }
 
-  pub said-page : {status : ℕ} → Wrote o 0 o′ n (replyText (ErrorPage status)) → r ≡ toldOf (answer.Page status) n → Said (ErrorPage status) r o o′
-  unfolding replyAnswer
-  said-page {status} w q = said (ErrorPage status) w q
-
-  pub said-signed-in : Wrote o 0 o′ n (replyText SignedIn) → r ≡ toldOf (answer.Page 200) n → Said SignedIn r o o′
-  unfolding replyAnswer
-  said-signed-in w q = said SignedIn w q
-
-  pub said-signed-out : {link : List ℕ} → Wrote o 0 o′ n (replyText (SignedOut link)) → r ≡ toldOf (answer.Page 200) n → Said (SignedOut link) r o o′
-  unfolding replyAnswer
-  said-signed-out {link} w q = said (SignedOut link) w q
-
-  pub said-form : {status : ℕ} {lt service : List ℕ} → Wrote o 0 o′ n (replyText (FormPage status lt service)) → r ≡ toldOf (answer.Page status) n → Said (FormPage status lt service) r o o′
-  unfolding replyAnswer
-  said-form {status} {lt} {service} w q = said (FormPage status lt service) w q
-
   pub said-redirect : {service ticket : List ℕ} → 1 ≤ length ticket → Wrote o 0 o′ n (replyText (RedirectTo service ticket)) → r ≡ toldOf (answer.Redirect true) n → Said (RedirectTo service ticket) r o o′
   unfolding replyAnswer
   said-redirect {service} {ticket} h w q = said (RedirectTo service ticket) w (q ∙ rw (some-ticket ticket h))
 
-  pub said-gateway : {service : List ℕ} → Wrote o 0 o′ n (replyText (RedirectTo service [])) → r ≡ toldOf (answer.Redirect false) n → Said (RedirectTo service []) r o o′
-  unfolding replyAnswer
-  said-gateway {service} w q = said (RedirectTo service []) w q
-
-  pub said-word : {b : Bool} → Wrote o 0 o′ n (replyText (YesNo b)) → r ≡ toldOf (answer.Text b) n → Said (YesNo b) r o o′
-  unfolding replyAnswer
-  said-word {b} w q = said (YesNo b) w q
-
-  pub said-failure : {code : Code} → Wrote o 0 o′ n (replyText (Failure code)) → r ≡ toldOf (answer.Xml false) n → Said (Failure code) r o o′
-  unfolding replyAnswer
-  said-failure {code} w q = said (Failure code) w q
-
   pub said-success : {user : List ℕ} {since mark : ℕ} {iou : List ℕ} {proxies : List (List ℕ)} → Wrote o 0 o′ n (replyText (Success user since mark iou proxies)) → r ≡ toldOf (answer.Xml true) n → Said (Success user since mark iou proxies) r o o′
   unfolding replyAnswer
   said-success {user} {since} {mark} {iou} {proxies} w q = said (Success user since mark iou proxies) w q
-
-  pub said-proxy-success : {ticket : List ℕ} → Wrote o 0 o′ n (replyText (ProxySuccess ticket)) → r ≡ toldOf (answer.Xml true) n → Said (ProxySuccess ticket) r o o′
-  unfolding replyAnswer
-  said-proxy-success {ticket} w q = said (ProxySuccess ticket) w q
-
-  pub said-proxy-failure : {code : Code} → Wrote o 0 o′ n (replyText (ProxyFailure code)) → r ≡ toldOf (answer.Xml false) n → Said (ProxyFailure code) r o o′
-  unfolding replyAnswer
-  said-proxy-failure {code} w q = said (ProxyFailure code) w q
 
   pub said-callback : {url pgt iou : List ℕ} {serial : ℕ} → Wrote o 0 o′ n (callbackText url pgt iou) → r ≡ toldOf (answer.Callback serial) n → Said (CallbackTo url pgt iou serial) r o o′
   unfolding replyAnswer replyText

@@ -132,20 +132,17 @@ pub fn login_query(q: &[u8]) -> LoginQuery
     ensures { λ r. ⌜ AskedIn (now (q .entry)) r ⌝ }
 {
     let found = query::walk(q, b"service", b"renew", b"gateway", b"");
-    let at_service = found.a;
-    let at_renew = found.b;
-    let at_gateway = found.c;
-    let s = judge_text(q, at_service, false, LONG);
-    let r = judge_text(q, at_renew, false, LONG);
-    let g = judge_text(q, at_gateway, false, LONG);
+    let s = judge_text(q, found.a, false, LONG);
+    let r = judge_text(q, found.b, false, LONG);
+    let g = judge_text(q, found.c, false, LONG);
     if s.bad | r.bad | g.bad {
         return LoginQuery::Malformed;
     }
     let service = s.value;
     LoginQuery::Given {
         service,
-        renew: 0 < at_renew.count,
-        gateway: 0 < at_gateway.count,
+        renew: 0 < found.b.count,
+        gateway: 0 < found.c.count,
     }
 }
 
@@ -153,14 +150,10 @@ pub fn login_body(body: &[u8]) -> LoginBody
     ensures { λ r. ⌜ PostedIn (now (body .entry)) r ⌝ }
 {
     let found = query::walk(body, b"service", b"username", b"password", b"lt");
-    let at_service = found.a;
-    let at_username = found.b;
-    let at_password = found.c;
-    let at_lt = found.d;
-    let s = judge_text(body, at_service, true, LONG);
-    let u = judge_username(body, at_username);
-    let p = judge_password(body, at_password);
-    let l = judge_text(body, at_lt, true, SHORT);
+    let s = judge_text(body, found.a, true, LONG);
+    let u = judge_username(body, found.b);
+    let p = judge_password(body, found.c);
+    let l = judge_text(body, found.d, true, SHORT);
     if s.bad | u.bad | p.bad | l.bad {
         return LoginBody::Malformed;
     }
@@ -180,8 +173,7 @@ pub fn logout_query(q: &[u8]) -> LogoutQuery
     ensures { λ r. ⌜ LeavingIn (now (q .entry)) r ⌝ }
 {
     let found = query::walk(q, b"url", b"", b"", b"");
-    let at_url = found.a;
-    let u = judge_text(q, at_url, false, LONG);
+    let u = judge_text(q, found.a, false, LONG);
     if u.bad {
         return LogoutQuery::Malformed;
     }
@@ -193,14 +185,10 @@ pub fn validator_query(validator: Validator, q: &[u8]) -> ValidatorQuery
     ensures { λ r. ⌜ ShownIn validator (now (q .entry)) r ⌝ }
 {
     let found = query::walk(q, b"service", b"ticket", b"renew", b"pgtUrl");
-    let at_service = found.a;
-    let at_ticket = found.b;
-    let at_renew = found.c;
-    let at_callback = found.d;
-    let s = judge_text(q, at_service, false, LONG);
-    let t = judge_text(q, at_ticket, false, SHORT);
-    let r = judge_text(q, at_renew, false, LONG);
-    let c = judge_callback(validator, q, at_callback);
+    let s = judge_text(q, found.a, false, LONG);
+    let t = judge_text(q, found.b, false, SHORT);
+    let r = judge_text(q, found.c, false, LONG);
+    let c = judge_callback(validator, q, found.d);
     if s.bad | t.bad | r.bad | c.bad {
         return ValidatorQuery::Malformed;
     }
@@ -210,7 +198,7 @@ pub fn validator_query(validator: Validator, q: &[u8]) -> ValidatorQuery
     ValidatorQuery::Given {
         service,
         ticket,
-        renew: 0 < at_renew.count,
+        renew: 0 < found.c.count,
         pgt_url,
     }
 }
@@ -219,10 +207,8 @@ pub fn proxy_query(q: &[u8]) -> ProxyQuery
     ensures { λ r. ⌜ WantedIn (now (q .entry)) r ⌝ }
 {
     let found = query::walk(q, b"pgt", b"targetService", b"", b"");
-    let at_pgt = found.a;
-    let at_target = found.b;
-    let p = judge_text(q, at_pgt, false, SHORT);
-    let t = judge_text(q, at_target, false, LONG);
+    let p = judge_text(q, found.a, false, SHORT);
+    let t = judge_text(q, found.b, false, LONG);
     if p.bad | t.bad {
         return ProxyQuery::Malformed;
     }

@@ -23,8 +23,8 @@ use Rattle.route.proofs.Unread.{logout-reads, proxy-reads, get-reads}
 
 -- what logout is lent
 module _ (b g d o : List ℕ) (l : Lent b g d o) where
-  pub lent-logout : Leaving b g o
-  lent-logout = record { fine = l .lawful .fine; panels = l .panels; room = l .room }
+  pub lent-logout : Leaving b o
+  lent-logout = record { fine = l .lawful .fine; room = l .room }
 
 -- GET
 module _ (p : Path) (q g k d b : List ℕ) {r : Outcome} {b′ o o′ : List ℕ} where

@@ -27,7 +27,9 @@ fn by_get(
     out: &mut [u8],
 ) -> Outcome
     requires { ⌜ Lent (now table) (now register) (now random) (now out) ⌝ }
-    ensures { λ r. ⌜ Done (requestStep (getRequest path (now (q .entry))) (broughtBy (now (register .entry)) (now (cookie .entry)) (now (random .entry)) false) (decodeTable (now (table .entry)))) r (now (table .exit)) (now (out .entry)) (now (out .exit)) ⌝ }
+    ensures { λ r. ⌜ Done (requestStep (getRequest path (now (q .entry)))
+        (broughtBy (now (register .entry)) (now (cookie .entry)) (now (random .entry)) false) (decodeTable (now (table .entry))))
+        r (now (table .exit)) (now (out .entry)) (now (out .exit)) ⌝ }
 {
     match path {
         Path::Login => login_get::get(table, register, q, cookie, random, out),
@@ -51,7 +53,9 @@ fn by_post(
     cookie_out: &mut [u8],
 ) -> Outcome
     requires { ⌜ (Lent (now table) (now register) (now random) (now out)) × (64 ≤ length (now «cookie_out»)) ⌝ }
-    ensures { λ r. ⌜ Did (requestStep (postRequest path (now (body .entry))) (broughtBy (now (register .entry)) (now (cookie .entry)) (now (random .entry)) verdict) (decodeTable (now (table .entry)))) r (now (table .exit)) (now (out .entry)) (now (out .exit)) (now («cookie_out» .entry)) (now («cookie_out» .exit)) ⌝ }
+    ensures { λ r. ⌜ Did (requestStep (postRequest path (now (body .entry)))
+        (broughtBy (now (register .entry)) (now (cookie .entry)) (now (random .entry)) verdict) (decodeTable (now (table .entry))))
+        r (now (table .exit)) (now (out .entry)) (now (out .exit)) (now («cookie_out» .entry)) (now («cookie_out» .exit)) ⌝ }
 {
     match path {
         Path::Login => login_post::post(
@@ -84,7 +88,9 @@ pub fn request(
     cookie_out: &mut [u8],
 ) -> Outcome
     requires { ⌜ (Lent (now table) (now register) (now random) (now out)) × (64 ≤ length (now «cookie_out»)) ⌝ }
-    ensures { λ r. ⌜ Did (requestStep (requestOf method (now (target .entry)) (now (body .entry))) (broughtBy (now (register .entry)) (now (cookie .entry)) (now (random .entry)) verdict) (decodeTable (now (table .entry)))) r (now (table .exit)) (now (out .entry)) (now (out .exit)) (now («cookie_out» .entry)) (now («cookie_out» .exit)) ⌝ }
+    ensures { λ r. ⌜ Did (requestStep (requestOf method (now (target .entry)) (now (body .entry)))
+        (broughtBy (now (register .entry)) (now (cookie .entry)) (now (random .entry)) verdict) (decodeTable (now (table .entry))))
+        r (now (table .exit)) (now (out .entry)) (now (out .exit)) (now («cookie_out» .entry)) (now («cookie_out» .exit)) ⌝ }
 {
     let path = query::path_of(target);
     match method {

@@ -1,6 +1,6 @@
 // The eight calls: format a table, check a table, read username and password from a form, answer a request, finish a callback, tell a
-// visit, make a register block, check a register. A host calls these and nothing else. Each takes any bytes: it is refused by number, in the order of the list, and then nothing
-// is written; or it does what the protocol says.
+// visit, make a register block, check a register. A host calls these and nothing else. Each takes any bytes: it is refused by number, in
+// the order of the list, and then nothing is written; or it does what the protocol says.
 use protocol::Answer;
 use protocol::Fault;
 use protocol::Form;
@@ -68,7 +68,9 @@ pub fn answer(
     out: &mut [u8],
     cookie_out: &mut [u8],
 ) -> Outcome
-    ensures { λ r. ⌜ result r (now (table .exit)) (now (out .exit)) (now («cookie_out» .exit)) ≡ answerOf (inputs (now (table .entry)) (now (register .entry)) method (now (target .entry)) (now (body .entry)) (now (cookie .entry)) time (now (random .entry)) verdict (now (out .entry)) (now («cookie_out» .entry))) ⌝ }
+    ensures { λ r. ⌜ result r (now (table .exit)) (now (out .exit)) (now («cookie_out» .exit))
+        ≡ answerOf (inputs (now (table .entry)) (now (register .entry)) method (now (target .entry)) (now (body .entry)) (now (cookie .entry)) time
+        (now (random .entry)) verdict (now (out .entry)) (now («cookie_out» .entry))) ⌝ }
 {
     let number = refusal::of_answer(
         table,
@@ -119,7 +121,8 @@ pub fn visit(
     random: &[u8],
     out: &mut [u8],
 ) -> Visit
-    ensures { λ r. ⌜ visitRead r (now (table .entry)) (now (out .exit)) ≡ visitOf (now (table .entry)) (now (cookie .entry)) number time (now (random .entry)) (now (out .entry)) ⌝ }
+    ensures { λ r. ⌜ visitRead r (now (table .entry)) (now (out .exit))
+        ≡ visitOf (now (table .entry)) (now (cookie .entry)) number time (now (random .entry)) (now (out .entry)) ⌝ }
 {
     let refusal = refusal::of_visit(table, time, random.len(), out.len());
     if refusal != 0 {

@@ -1,17 +1,18 @@
--- What each loop of the writers does in a turn, and where it ends. Assumes nothing.
+-- What each loop does in a turn, and where it ends. Assumes nothing.
 use mathlib.Core.Path.{_≡_, refl, sym, ap, _∙_}
 use mathlib.Core.Bool.{Bool, true, false, _&&_}
 use mathlib.Core.List.{List, [], _∷_, _++_}
-use Prim.Native.Nat.{ℕ, zero, suc, _+_, _-_, _/_, _%_, _≤_, _<_}
+use Prim.Native.Nat.{ℕ, compare·suc-suc, zero, suc, _+_, _-_, _/_, _%_, _≤_, _<_}
 use native.Mathlib.Numerals.{sub-one}
 use native.Mathlib.Omega.{arith}
-use lib.Dec.{eqb}
+use lib.Dec.{eqb, ltb}
 use lib.ListN.{length, drop, getD, set, length-replicate, drop-of-length-le}
 use borrow.Author.Tests.{eq-eqb, ne-eqb, lt-ltb, le-ltb}
-use Rattle.protocol.specs.Bytes.{same, zeros, digits, hexDigit, hex}
+use Rattle.protocol.specs.Bytes.{if, same, holds, upTo, cutAt, zeros, digits, hexDigit, hex}
 use Rattle.protocol.specs.Answers.{escapedByte, escaped}
 use Rattle.protocol.specs.Written.{Wrote}
 use Rattle.protocol.proofs.Laws.{drop-step}
+use Rattle.text.specs.First.{FirstAt}
 use Rattle.text.proofs.Splice.{Left, left-room, left-start, left-put, left-byte, left-lt, left-done, wrote-byte, wrote-none}
 
 -- the loop of `put_zeros`
@@ -162,3 +163,32 @@ module _ (a b : List ℕ) (i : ℕ) (n : length a ≡ length b) (s : same (drop 
   same-done h =
       let k : length b ≤ i = omega arith in
       rw (drop-of-length-le a h, drop-of-length-le b k) at s
+
+-- `first_at`: the length up to b is what was passed and what is left up to it
+module _ (s : List ℕ) (b i : ℕ) (inv : length (upTo b s) ≡ i + length (upTo b (drop i s))) where
+  pub first-hit : i < length s → getD s i 0 ≡ b → FirstAt b s i
+  unfolding upTo
+  first-hit h e =
+      let z : upTo b (drop i s) ≡ [] = simp (drop-step s i h, eq-eqb _ _ e) in
+      record { is = omega (arith, ap length z); inside = omega arith }
+
+  pub first-miss : i < length s → (getD s i 0 ≡ b → ⊥) → length (upTo b s) ≡ (i + 1) + length (upTo b (drop (i + 1) s))
+  unfolding upTo
+  first-miss h n =
+      let z : upTo b (drop i s) ≡ getD s i 0 ∷ upTo b (drop (i + 1) s) = simp (drop-step s i h, ne-eqb _ _ n) in
+      omega (arith, ap length z)
+
+  pub first-none : length s ≤ i → i ≤ length s → FirstAt b s i
+  unfolding upTo
+  first-none h k =
+      let z : upTo b (drop i s) ≡ [] = ap (upTo b) (drop-of-length-le s h) in
+      record { is = omega (arith, ap length z); inside = k }
+
+-- `has_byte`: it stands before the text's end
+holds-before : (b : ℕ) (s : List ℕ) → ltb (length (upTo b s)) (length s) ≡ holds b s
+unfolding upTo holds
+holds-before b [] = refl
+holds-before b (x ∷ s) = elim (eqb x b) as (λ t. ltb (length (cutAt t x (upTo b s))) (suc (length s)) ≡ if t true (holds b s)) [ true ↦ lt-ltb 0 (suc (length s)) (omega arith) | false ↦ rw (compare·suc-suc (suc (length (upTo b s))) (length s)) (holds-before b s) ]
+
+pub first-holds : (b : ℕ) (s : List ℕ) (r : ℕ) → FirstAt b s r → ltb r (length s) ≡ holds b s
+first-holds b s r f = rw (f .is) (holds-before b s)

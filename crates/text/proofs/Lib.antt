@@ -1,3 +1,3 @@
--- Laws of writing, and of the loops that write.
+-- Laws of writing, and of the loops that write and look.
 pub mod Splice
 pub mod Laws

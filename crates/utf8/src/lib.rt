@@ -87,19 +87,13 @@ pub fn is_start(state: Next) -> bool
     }
 }
 
-fn wide(b: u8) -> usize
-    ensures { λ r. ⌜ r ≡ b ⌝ }
-{
-    b as usize
-}
-
 pub fn is_name(bytes: &[u8]) -> bool
     ensures { λ r. ⌜ r ≡ nameRight (now (bytes .entry)) ⌝ }
 {
     let mut state = Next::Start;
     let mut i = 0;
     while i < bytes.len() {
-        state = follow(state, wide(bytes[i]));
+        state = follow(state, text::wide(bytes[i]) as usize);
         i += 1;
     }
     is_start(state)

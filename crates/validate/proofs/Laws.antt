@@ -1,19 +1,18 @@
 -- A validator's values are read as they are spoken of, and showing them is what protocol says. Assumes nothing.
 use mathlib.Core.Path.{_≡_, refl, sym, ap, _∙_}
 use mathlib.Core.Bool.{Bool, true, false, _||_}
-use mathlib.Core.List.{List, [], _∷_}
-use Prim.Native.Nat.{ℕ, _≤_}
+use mathlib.Core.List.{List}
+use Prim.Native.Nat.{ℕ}
 use native.Mathlib.Omega.{arith}
-use borrow.Author.Tests.{ne-eqb}
 use lib.Dec.{eqb}
 use lib.ListN.{length, take}
-use Rattle.protocol.specs.Bytes.{ascii, isEmpty, same, among}
+use Rattle.protocol.specs.Bytes.{isEmpty, same, among}
 use Rattle.protocol.specs.Records.{Rec}
 use Rattle.protocol.specs.Table.{Table, decodeTable, recAt}
 use Rattle.protocol.specs.Register.{decodeRegister}
 use Rattle.protocol.specs.Request.{Read, Malformed, Given, Shown, shown, valueMost}
 use Rattle.protocol.specs.Answers.{InvalidRequest}
-use Rattle.protocol.specs.Steps.{Brought, step, remove, ticketSlot, failed, rulingOf, grants, grantOrTell, acceptTicket, ruled, presented, validate}
+use Rattle.protocol.specs.Steps.{Brought, remove, ticketSlot, failed, rulingOf, grants, grantOrTell, acceptTicket, ruled, presented, validate}
 use Rattle.protocol.specs.Written.{Wrote}
 use Rattle.protocol.specs.Held.{Said, Done, Lent, bringing}
 use Rattle.protocol.specs.declared.Outcome.{Outcome}
@@ -21,15 +20,15 @@ use Rattle.protocol.specs.declared.Ruling.{Ruling}
 use Rattle.protocol.specs.declared.Ruling.the-variants as ruling
 use Rattle.protocol.specs.declared.Validator.{Validator}
 use Rattle.protocol.proofs.Searches.{empty}
-use Rattle.protocol.proofs.Told.{only-said, done-as}
+use Rattle.protocol.proofs.Told.{only-said}
 use Rattle.text.proofs.Splice.{read-back}
-use Rattle.request.specs.Value.{valueAt, Readable}
+use Rattle.request.specs.Value.{valueAt}
 use Rattle.request.specs.Spelled.{spelledShown, ShownFits, ShownIn}
 use Rattle.request.specs.declared.Value.{Value}
 use Rattle.request.specs.declared.ValidatorQuery.{ValidatorQuery}
 use Rattle.request.specs.declared.ValidatorQuery.the-variants as query
 use Rattle.present.specs.Brings.{Brings}
-use Rattle.validate.specs.Given.{Values, given}
+use Rattle.validate.specs.Given.{Values}
 
 -- Values that were read at their places
 
@@ -44,40 +43,36 @@ pub shown-done : (v : Validator) (q : List ℕ) (s t u : Value) (renew : Bool) (
 shown-done v q s t u renew b g random o x x′ y y′ z z′ l m n i j k b′ o′ r d =
     rw (read-back x x′ (valueAt false q t) l i, read-back y y′ (valueAt false q s) m j, read-back z z′ (valueAt false q u) n k) at d
 
--- (1) by the lengths of service and ticket
-
-module _ (v : Validator) (q : List ℕ) (s t u : Value) (renew : Bool) (w : Values q s t u) (b g random o : List ℕ) where
-  lacks : isEmpty (valueAt false q s) || isEmpty (valueAt false q t) ≡ eqb (s .length) 0 || eqb (t .length) 0
-  lacks = rw (empty (valueAt false q s) (s .length) (w .service .long), empty (valueAt false q t) (t .length) (w .ticket .long))
-
-  pub absent-done : Lent b g random o → eqb (s .length) 0 || eqb (t .length) 0 ≡ true → (o′ : List ℕ) (r : Outcome) → Said (failed v InvalidRequest) r o o′ → Done (validate v (given q s t renew u) (bringing g random) (decodeTable b)) r b o o′
-  unfolding validate
-  absent-done h e o′ r x = done-as (rw (lacks, e)) (only-said (h .lawful .fine) x)
-
-  pub given-done : eqb (s .length) 0 || eqb (t .length) 0 ≡ false → (b′ o′ : List ℕ) (r : Outcome)
-      → Done (presented v (ticketSlot (valueAt false q t) (decodeTable b)) renew (valueAt false q s) (valueAt false q u) (bringing g random) (decodeTable b)) r b′ o o′
-      → Done (validate v (given q s t renew u) (bringing g random) (decodeTable b)) r b′ o o′
-  unfolding validate
-  given-done e b′ o′ r d = done-as (rw (lacks, e)) d
-
--- By what was read
+-- By what was read: a service and a ticket must be there
 
 module _ (v : Validator) (q : List ℕ) (x : ValidatorQuery) (k : ShownIn v q x) where
-  module _ (s t : Value) (renew : Bool) (u : Value) (e : x ≡ query.Given s t renew u) where
-    pub values-in : Values q s t u
-    unfolding valueMost among same
-    values-in = let f : ShownFits q (query.Given s t renew u) = rw e at (k .fits) in record { service = f .0; ticket = f .1; url = f .2 }
-
-    pub as-given : (b g random o b′ o′ : List ℕ) (r : Outcome) → Done (validate v (given q s t renew u) (bringing g random) (decodeTable b)) r b′ o o′ → Done (validate v (shown v q) (bringing g random) (decodeTable b)) r b′ o o′
-    as-given b g random o b′ o′ r d =
-        let m : given q s t renew u ≡ shown v q = sym (ap (spelledShown q) e) ∙ k .spells in
-        rw m at d
-
   pub as-malformed : x ≡ query.Malformed → (b g random o o′ : List ℕ) (r : Outcome) → Lent b g random o → Said (failed v InvalidRequest) r o o′ → Done (validate v (shown v q) (bringing g random) (decodeTable b)) r b o o′
   unfolding validate
   as-malformed e b g random o o′ r h d =
       let m : Malformed ≡ shown v q = sym (ap (spelledShown q) e) ∙ k .spells in
       rw (sym m) (only-said (h .lawful .fine) d)
+
+  module _ (s t : Value) (renew : Bool) (u : Value) (e : x ≡ query.Given s t renew u) where
+    pub values-in : Values q s t u
+    unfolding valueMost among same
+    values-in = let f : ShownFits q (query.Given s t renew u) = rw e at (k .fits) in record { service = f .0; ticket = f .1; url = f .2 }
+
+    asks : Given (record { service = valueAt false q s; ticket = valueAt false q t; renew = renew; pgtUrl = valueAt false q u }) ≡ shown v q
+    asks = sym (ap (spelledShown q) e) ∙ k .spells
+
+    lacks : isEmpty (valueAt false q s) || isEmpty (valueAt false q t) ≡ eqb (s .length) 0 || eqb (t .length) 0
+    lacks = rw (empty (valueAt false q s) (s .length) (values-in .service .long), empty (valueAt false q t) (t .length) (values-in .ticket .long))
+
+    module _ (b g random o b′ o′ : List ℕ) (r : Outcome) where
+      pub as-absent : eqb (s .length) 0 || eqb (t .length) 0 ≡ true → Lent b g random o → Said (failed v InvalidRequest) r o o′ → Done (validate v (shown v q) (bringing g random) (decodeTable b)) r b o o′
+      unfolding validate
+      as-absent z h d = rw (sym asks, lacks, z) (only-said (h .lawful .fine) d)
+
+      pub as-given : eqb (s .length) 0 || eqb (t .length) 0 ≡ false
+          → Done (presented v (ticketSlot (valueAt false q t) (decodeTable b)) renew (valueAt false q s) (valueAt false q u) (bringing g random) (decodeTable b)) r b′ o o′
+          → Done (validate v (shown v q) (bringing g random) (decodeTable b)) r b′ o o′
+      unfolding validate
+      as-given z d = rw (sym asks, lacks, z) d
 
 -- cookie and verdict are not read
 module _ (register cookie random : List ℕ) (verdict : Bool) where

@@ -1,9 +1,8 @@
 -- What was read of a validator's request that is not malformed.
-use mathlib.Core.Bool.{Bool, false}
+use mathlib.Core.Bool.{false}
 use mathlib.Core.List.{List}
 use Prim.Native.Nat.{ℕ}
-use Rattle.protocol.specs.Request.{Read, Given, Shown}
-use Rattle.request.specs.Value.{valueAt, Readable}
+use Rattle.request.specs.Value.{Readable}
 use Rattle.request.specs.declared.Value.{Value}
 
 -- its values can be decoded from their places
@@ -11,8 +10,3 @@ pub record Values (q : List ℕ) (s t u : Value) : Type 0 where
   pub service : Readable false 200 q s
   pub ticket : Readable false 64 q t
   pub url : Readable false 200 q u
-
--- and what they spell
-abbrev pub given : List ℕ → Value → Value → Bool → Value → Read Shown
-given q service ticket renew url =
-    Given (record { service = valueAt false q service; ticket = valueAt false q ticket; renew = renew; pgtUrl = valueAt false q url })

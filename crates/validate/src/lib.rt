@@ -6,50 +6,15 @@ use request::ValidatorQuery;
 use request::Value;
 use xml::Code;
 ghost use mathlib.Core.Bool.{false};
-ghost use Prim.Native.Nat.{_≤_};
 ghost use lib.ListN.{length};
 ghost use Rattle.protocol.specs.Table.{decodeTable};
 ghost use Rattle.protocol.specs.Request.{shown};
 ghost use Rattle.protocol.specs.Steps.{presented, ticketSlot, validate};
 ghost use Rattle.protocol.specs.Held.{Done, Lent, bringing};
 ghost use Rattle.request.specs.Value.{valueAt};
-ghost use Rattle.validate.specs.Given.{Values, given};
+ghost use Rattle.validate.specs.Given.{Values};
 
-// With room for the decoded values.
-fn decode_and_show(
-    table: &mut [u8],
-    register: &[u8],
-    validator: Validator,
-    q: &[u8],
-    service: Value,
-    ticket: Value,
-    renew: bool,
-    url: Value,
-    random: &[u8],
-    out: &mut [u8],
-    for_ticket: &mut [u8],
-    for_service: &mut [u8],
-    for_url: &mut [u8],
-) -> Outcome
-    requires { ⌜ (Lent (now table) (now register) (now random) (now out)) × (Values (now q) service ticket url) × (64 ≤ length (now «for_ticket»)) × (200 ≤ length (now «for_service»)) × (200 ≤ length (now «for_url»)) ⌝ }
-    ensures { λ r. ⌜ Done (presented validator (ticketSlot (valueAt false (now (q .entry)) ticket) (decodeTable (now (table .entry)))) renew (valueAt false (now (q .entry)) service) (valueAt false (now (q .entry)) url) (bringing (now (register .entry)) (now (random .entry))) (decodeTable (now (table .entry)))) r (now (table .exit)) (now (out .entry)) (now (out .exit)) ⌝ }
-{
-    let t = request::read(q, ticket, false, for_ticket);
-    let s = request::read(q, service, false, for_service);
-    let u = request::read(q, url, false, for_url);
-    present::show(
-        table,
-        register,
-        validator,
-        &for_ticket[..t],
-        renew,
-        &for_service[..s],
-        &for_url[..u],
-        random,
-        out,
-    )
-}
-
+// The values are decoded, and the ticket is shown.
 fn show_given(
     table: &mut [u8],
     register: &[u8],
@@ -63,56 +28,26 @@ fn show_given(
     out: &mut [u8],
 ) -> Outcome
     requires { ⌜ (Lent (now table) (now register) (now random) (now out)) × (Values (now q) service ticket url) ⌝ }
-    ensures { λ r. ⌜ Done (presented validator (ticketSlot (valueAt false (now (q .entry)) ticket) (decodeTable (now (table .entry)))) renew (valueAt false (now (q .entry)) service) (valueAt false (now (q .entry)) url) (bringing (now (register .entry)) (now (random .entry))) (decodeTable (now (table .entry)))) r (now (table .exit)) (now (out .entry)) (now (out .exit)) ⌝ }
+    ensures { λ r. ⌜ Done (presented validator
+        (ticketSlot (valueAt false (now (q .entry)) ticket) (decodeTable (now (table .entry)))) renew
+        (valueAt false (now (q .entry)) service) (valueAt false (now (q .entry)) url)
+        (bringing (now (register .entry)) (now (random .entry))) (decodeTable (now (table .entry)))) r (now (table .exit))
+        (now (out .entry)) (now (out .exit)) ⌝ }
 {
     let mut for_ticket = [0u8; 64];
     let mut for_service = [0u8; 200];
     let mut for_url = [0u8; 200];
-    decode_and_show(
+    let t = request::read(q, ticket, false, &mut for_ticket);
+    let s = request::read(q, service, false, &mut for_service);
+    let u = request::read(q, url, false, &mut for_url);
+    present::show(
         table,
         register,
         validator,
-        q,
-        service,
-        ticket,
+        &for_ticket[..t],
         renew,
-        url,
-        random,
-        out,
-        &mut for_ticket,
-        &mut for_service,
-        &mut for_url,
-    )
-}
-
-// A request that is not malformed: a service and a ticket must be there.
-fn validate_given(
-    table: &mut [u8],
-    register: &[u8],
-    validator: Validator,
-    q: &[u8],
-    service: Value,
-    ticket: Value,
-    renew: bool,
-    url: Value,
-    random: &[u8],
-    out: &mut [u8],
-) -> Outcome
-    requires { ⌜ (Lent (now table) (now register) (now random) (now out)) × (Values (now q) service ticket url) ⌝ }
-    ensures { λ r. ⌜ Done (validate validator (given (now (q .entry)) service ticket renew url) (bringing (now (register .entry)) (now (random .entry))) (decodeTable (now (table .entry)))) r (now (table .exit)) (now (out .entry)) (now (out .exit)) ⌝ }
-{
-    if (service.length == 0) | (ticket.length == 0) {
-        return present::fail(validator, Code::InvalidRequest, out);
-    }
-    show_given(
-        table,
-        register,
-        validator,
-        q,
-        service,
-        ticket,
-        renew,
-        url,
+        &for_service[..s],
+        &for_url[..u],
         random,
         out,
     )
@@ -127,7 +62,9 @@ pub fn validate(
     out: &mut [u8],
 ) -> Outcome
     requires { ⌜ Lent (now table) (now register) (now random) (now out) ⌝ }
-    ensures { λ r. ⌜ Done (validate validator (shown validator (now (q .entry))) (bringing (now (register .entry)) (now (random .entry))) (decodeTable (now (table .entry)))) r (now (table .exit)) (now (out .entry)) (now (out .exit)) ⌝ }
+    ensures { λ r. ⌜ Done (validate validator (shown validator (now (q .entry)))
+        (bringing (now (register .entry)) (now (random .entry))) (decodeTable (now (table .entry)))) r (now (table .exit))
+        (now (out .entry)) (now (out .exit)) ⌝ }
 {
     match request::validator_query(validator, q) {
         ValidatorQuery::Malformed => present::fail(validator, Code::InvalidRequest, out),
@@ -136,17 +73,22 @@ pub fn validate(
             ticket,
             renew,
             pgt_url,
-        } => validate_given(
-            table,
-            register,
-            validator,
-            q,
-            service,
-            ticket,
-            renew,
-            pgt_url,
-            random,
-            out,
-        ),
+        } => {
+            if (service.length == 0) | (ticket.length == 0) {
+                return present::fail(validator, Code::InvalidRequest, out);
+            }
+            show_given(
+                table,
+                register,
+                validator,
+                q,
+                service,
+                ticket,
+                renew,
+                pgt_url,
+                random,
+                out,
+            )
+        }
     }
 }

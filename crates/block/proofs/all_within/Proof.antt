@@ -12,16 +12,8 @@ Inv-loop s lo hi good₀ i₀ good i = Passed lo hi s good i
 abbrev μ-loop : tie.MeasureT-loop
 μ-loop s lo hi good₀ i₀ good i = length s - i
 
-loop-holds : tie.Need-loop-holds Inv-loop μ-loop
-loop-holds c = search pass-start
-
-loop-again : tie.Need-loop-again Inv-loop μ-loop
-loop-again c = search pass-next
-
-returns : tie.Need-returns Inv-loop μ-loop
-returns c = search pass-all
-
 pub all-within-spec : {M : Type 1} → statement M
 all-within-spec =
     tie.close
-    (tie.spec Inv-loop μ-loop loop-holds (λ c. search needs) (λ c. search needs) (λ c. search needs) (λ c. search needs) loop-again returns)
+    (tie.spec Inv-loop μ-loop (λ c. search pass-start) (search needs) (search needs) (search needs) (search needs) (λ c. search pass-next)
+    (λ c. search pass-all))

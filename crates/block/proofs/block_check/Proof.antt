@@ -21,23 +21,16 @@ loop-holds : tie.Need-loop-holds Inv-loop μ-loop
 unfolding houseCheck
 loop-holds c = (omega arith, omega arith, omega arith, refl)
 
-add-a : tie.Need-add-a Inv-loop μ-loop
-add-a c = omega (arith, c .before .shared-slice-known2 .given (c .before .before .before .loop .i))
-
-add-b : tie.Need-add-b Inv-loop μ-loop
-add-b c = omega (arith, c .before .shared-slice-known2 .given (c .before .before .before .loop .i))
-
 loop-again : tie.Need-loop-again Inv-loop μ-loop
 loop-again c =
     let l = c .before .before .before .loop in
     let k = c .before .shared-slice-known2 .given (l .i) in
     (omega arith, omega arith, omega arith, sym (sums-turn _ (l .i) (l .a) (l .b) (c .wide .result) (omega arith) (c .wide .ensures .0)) ∙ l .inv .3)
 
-returns : tie.Need-returns Inv-loop μ-loop
-returns c = sym (sums-done _ (c .before .loop .i) _ _ (omega arith)) ∙ c .before .loop .inv .3
-
 pub block-check-spec : {M : Type 1} → statement M
 block-check-spec =
     tie.close
-    (tie.spec Inv-loop μ-loop loop-holds (λ c. omega arith) (λ c κs. search needs) add-a add-b (λ c. omega arith) (λ c. omega arith) loop-again
-    (λ c. omega arith) (λ c. omega arith) (λ c. omega arith) returns)
+    (tie.spec Inv-loop μ-loop loop-holds (λ c. omega arith) (search needs)
+    (λ c. omega (arith, c .before .shared-slice-known2 .given (c .before .before .before .loop .i)))
+    (λ c. omega (arith, c .before .shared-slice-known2 .given (c .before .before .before .loop .i))) (λ c. omega arith) (λ c. omega arith) loop-again
+    (λ c. omega arith) (λ c. omega arith) (λ c. omega arith) (λ c. sym (sums-done _ (c .before .loop .i) _ _ (omega arith)) ∙ c .before .loop .inv .3))

@@ -7,5 +7,4 @@ use Rattle.block.proofs.block_ok.Tie as tie
 pub block-ok-spec : {M : Type 1} → statement M
 block-ok-spec =
     tie.close
-    (tie.spec (λ c. search needs) (λ c. search needs) (λ c. search needs) (λ c. search needs) (λ c. search needs) (λ c κs. search needs)
-    (λ c κs. search needs) (λ c. search right-in-place))
+    (tie.spec (search needs) (search needs) (search needs) (search needs) (search needs) (search needs) (search needs) (λ c. search right-in-place))

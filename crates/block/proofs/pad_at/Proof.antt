@@ -5,6 +5,4 @@ use Rattle.block.proofs.pad_at.Statement.{statement}
 use Rattle.block.proofs.pad_at.Tie as tie
 
 pub pad-at-spec : {M : Type 1} → statement M
-pad-at-spec =
-    tie.close
-    (tie.spec (λ c κs. search needs) (λ c. search needs) (λ c. search needs) (λ c κs. search needs) (λ c. search needs) (λ c. search padded))
+pad-at-spec = tie.close (tie.spec (search needs) (search needs) (search needs) (search needs) (search needs) (λ c. search padded))

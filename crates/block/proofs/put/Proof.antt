@@ -17,17 +17,11 @@ Inv-loop s₀ at n v w₀ i₀ s w i = (i ≤ n) × (length s ≡ length s₀) �
 abbrev μ-loop : tie.MeasureT-loop
 μ-loop s₀ at n v w₀ i₀ s w i = n - i
 
-loop-holds : tie.Need-loop-holds Inv-loop μ-loop
-loop-holds c = (omega arith, refl, simp (add-zero, sub-zero))
-
 loop-again : tie.Need-loop-again Inv-loop μ-loop
 loop-again c =
     let l = c .before .loop in
     let a = c .before .before .args in
     (omega arith, simp length-set (l .inv .1), put-more _ (a .at) (a .n) (l .i) (l .w) (omega arith) ∙ l .inv .2)
-
-same-length : tie.Need-same-length Inv-loop μ-loop
-same-length c = c .before .loop .inv .1
 
 returns : tie.Need-returns Inv-loop μ-loop
 returns c =
@@ -38,5 +32,5 @@ returns c =
 pub put-spec : {M : Type 1} → statement M
 put-spec =
     tie.close
-    (tie.spec Inv-loop μ-loop loop-holds (λ c. omega arith) (λ c. omega arith) (λ c. omega arith) (λ c. omega arith) (λ c. omega arith) loop-again
-    same-length returns)
+    (tie.spec Inv-loop μ-loop (λ c. (omega arith, refl, simp (add-zero, sub-zero))) (λ c. omega arith) (λ c. omega arith) (λ c. omega arith)
+    (λ c. omega arith) (λ c. omega arith) loop-again (λ c. c .before .loop .inv .1) returns)

@@ -5,8 +5,5 @@ use borrow.Author.Needs.{needs}
 use Rattle.block.proofs.put_u8.Statement.{statement}
 use Rattle.block.proofs.put_u8.Tie as tie
 
-returns : tie.Need-returns
-returns c = sets-spliced (c .args .v ∷ []) (c .args .s .now) (c .args .at) (c .pre)
-
 pub put-u8-spec : {M : Type 1} → statement M
-put-u8-spec = tie.close (tie.spec (λ c. search needs) (λ c. search needs) returns)
+put-u8-spec = tie.close (tie.spec (search needs) (search needs) (λ c. sets-spliced (c .args .v ∷ []) (c .args .s .now) (c .args .at) (c .pre)))

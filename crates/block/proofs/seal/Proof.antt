@@ -7,5 +7,4 @@ use Rattle.block.proofs.seal.Tie as tie
 pub seal-spec : {M : Type 1} → statement M
 seal-spec =
     tie.close
-    (tie.spec (λ c. search needs) (λ c. search front-long) (λ c κs. search front-short) (λ c κs. search needs) (λ c. search needs)
-    (λ c. search seal-done))
+    (tie.spec (search needs) (λ c. search front-long) (λ c κs. search front-short) (search needs) (search needs) (λ c. search seal-done))

@@ -5,8 +5,5 @@ use lib.ListN.{length-replicate}
 use Rattle.block.proofs.zeros_at.Statement.{statement}
 use Rattle.block.proofs.zeros_at.Tie as tie
 
-put-zeros-requires : tie.Need-put-zeros-requires
-put-zeros-requires c κs = record { fits = rw length-replicate (omega arith) }
-
 pub zeros-at-spec : {M : Type 1} → statement M
-zeros-at-spec = tie.close (tie.spec put-zeros-requires (λ c. search needs) (λ c. search needs))
+zeros-at-spec = tie.close (tie.spec (λ c κs. record { fits = rw length-replicate (omega arith) }) (search needs) (λ c. search needs))

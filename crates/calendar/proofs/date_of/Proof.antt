@@ -5,4 +5,4 @@ use Rattle.calendar.proofs.date_of.Statement.{statement}
 use Rattle.calendar.proofs.date_of.Tie as tie
 
 pub date-of-spec : {M : Type 1} → statement M
-date-of-spec = tie.close (tie.spec (λ c κs. search needs) (λ c κs. search (needs, day-fits)) (λ c. search (needs, date-is)))
+date-of-spec = tie.close (tie.spec (search needs) (λ c κs. search (needs, day-fits)) (λ c. search (needs, date-is)))

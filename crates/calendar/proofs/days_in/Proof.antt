@@ -9,4 +9,4 @@ unfolding daysIn
 returns c = search needs
 
 pub days-in-spec : {M : Type 1} → statement M
-days-in-spec = tie.close (tie.spec (λ c. search needs) (λ c. search needs) (λ c. search needs) (λ c. search needs) returns)
+days-in-spec = tie.close (tie.spec (search needs) (search needs) (search needs) (search needs) returns)

@@ -7,4 +7,4 @@ use Rattle.calendar.proofs.month_length.Tie as tie
 pub month-length-spec : {M : Type 1} → statement M
 month-length-spec =
     tie.close
-    (tie.spec (λ c κs. search needs) (λ c. search long-february) (λ c. search short-february) (λ c. search short-month) (λ c. search long-month))
+    (tie.spec (search needs) (λ c. search long-february) (λ c. search short-february) (λ c. search short-month) (λ c. search long-month))

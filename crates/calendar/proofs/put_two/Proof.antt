@@ -7,5 +7,5 @@ use Rattle.calendar.proofs.put_two.Tie as tie
 pub put-two-spec : {M : Type 1} → statement M
 put-two-spec =
     tie.close
-    (tie.spec (λ c. search needs) (λ c. search needs) (λ c. search needs) (λ c. search needs) (λ c. search needs) (λ c κs. search (needs, room-two))
-    (λ c. search needs) (λ c. search (needs, wrote-two)))
+    (tie.spec (search needs) (search needs) (search needs) (search needs) (search needs) (λ c κs. search (needs, room-two)) (search needs)
+    (λ c. search (needs, wrote-two)))

@@ -7,5 +7,5 @@ use Rattle.calendar.proofs.year_of.Tie as tie
 pub year-of-spec : {M : Type 1} → statement M
 year-of-spec =
     tie.close
-    (tie.spec (λ c. search needs) (λ c. search needs) (λ c. search needs) (λ c κs. search needs) (λ c. search needs) (λ c κs. search needs)
-    (λ c. search (needs, this-before)) (λ c. search (needs, this-year)) (λ c. search needs) (λ c. search (needs, next-year)))
+    (tie.spec (search needs) (search needs) (search needs) (search needs) (search needs) (search needs) (λ c. search (needs, this-before))
+    (λ c. search (needs, this-year)) (search needs) (λ c. search (needs, next-year)))

@@ -5,4 +5,4 @@ use Rattle.decode.proofs.byte_at.Statement.{statement}
 use Rattle.decode.proofs.byte_at.Tie as tie
 
 pub byte-at-spec : {M : Type 1} → statement M
-byte-at-spec = tie.close (tie.spec (λ c. search needs) (λ c. search needs) (λ c. search (needs, byte-none)))
+byte-at-spec = tie.close (tie.spec (search needs) (search needs) (λ c. search (needs, byte-none)))

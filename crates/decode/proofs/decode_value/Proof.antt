@@ -17,26 +17,8 @@ Inv-loop raw in-body out₀ i₀ to₀ out i to = Left out₀ 0 (decoded in-body
 abbrev μ-loop : tie.MeasureT-loop
 μ-loop raw in-body out₀ i₀ to₀ out i to = length raw - i
 
-loop-holds : tie.Need-loop-holds Inv-loop μ-loop
-loop-holds c = search (needs, left-start)
-
-cast-out : tie.Need-cast-out Inv-loop μ-loop
-cast-out c = search (needs, write-small)
-
-slice-write-out : tie.Need-slice-write-out Inv-loop μ-loop
-slice-write-out c = search (needs, write-room)
-
-add-to : tie.Need-add-to Inv-loop μ-loop
-add-to c = search (needs, write-room)
-
-loop-again : tie.Need-loop-again Inv-loop μ-loop
-loop-again c = search (needs, write-turn, write-right)
-
-returns : tie.Need-returns Inv-loop μ-loop
-returns c = search (needs, write-done)
-
 pub decode-value-spec : {M : Type 1} → statement M
 decode-value-spec =
     tie.close
-    (tie.spec Inv-loop μ-loop loop-holds (λ c κs. search needs) cast-out slice-write-out add-to (λ c. search needs) loop-again (λ c. search needs)
-    returns)
+    (tie.spec Inv-loop μ-loop (λ c. search (needs, left-start)) (search needs) (λ c. search (needs, write-small)) (λ c. search (needs, write-room))
+    (λ c. search (needs, write-room)) (search needs) (λ c. search (needs, write-turn, write-right)) (search needs) (λ c. search (needs, write-done)))

@@ -7,6 +7,5 @@ use Rattle.decode.proofs.escape_at.Tie as tie
 pub escape-at-spec : {M : Type 1} → statement M
 escape-at-spec =
     tie.close
-    (tie.spec (λ c. search needs) (λ c κs. search needs) (λ c κs. search needs) (λ c. search needs) (λ c κs. search needs) (λ c κs. search needs)
-    (λ c. search needs) (λ c. search needs) (λ c. search needs) (λ c. search (needs, escape-byte)) (λ c. search needs)
-    (λ c. search (needs, escape-bad)))
+    (tie.spec (search needs) (search needs) (search needs) (search needs) (search needs) (search needs) (search needs) (search needs) (search needs)
+    (λ c. search (needs, escape-byte)) (search needs) (λ c. search (needs, escape-bad)))

@@ -15,23 +15,8 @@ Inv-loop raw in-body lo hi most i₀ n₀ i n = (n ≤ i) × ((allWithin lo hi (
 abbrev μ-loop : tie.MeasureT-loop
 μ-loop raw in-body lo hi most i₀ n₀ i n = length raw - i
 
-returns : tie.Need-returns Inv-loop μ-loop
-returns c = search (needs, judge-low)
-
-returns-2 : tie.Need-returns-2 Inv-loop μ-loop
-returns-2 c = search (needs, judge-high)
-
-loop-again : tie.Need-loop-again Inv-loop μ-loop
-loop-again c = search (needs, judge-right, judge-count)
-
-returns-3 : tie.Need-returns-3 Inv-loop μ-loop
-returns-3 c = search (needs, judge-good)
-
-returns-4 : tie.Need-returns-4 Inv-loop μ-loop
-returns-4 c = search (needs, judge-long)
-
 pub judge-spec : {M : Type 1} → statement M
 judge-spec =
     tie.close
-    (tie.spec Inv-loop μ-loop (λ c. search needs) (λ c κs. search needs) returns returns-2 (λ c. search needs) (λ c. search needs) loop-again
-    returns-3 returns-4)
+    (tie.spec Inv-loop μ-loop (λ c. search needs) (search needs) (λ c. search (needs, judge-low)) (λ c. search (needs, judge-high)) (search needs)
+    (search needs) (λ c. search (needs, judge-right, judge-count)) (λ c. search (needs, judge-good)) (λ c. search (needs, judge-long)))

@@ -17,20 +17,8 @@ Inv-loop raw in-body most i₀ n₀ state₀ i n state =
 abbrev μ-loop : tie.MeasureT-loop
 μ-loop raw in-body most i₀ n₀ state₀ i n state = length raw - i
 
-loop-holds : tie.Need-loop-holds Inv-loop μ-loop
-loop-holds c = search (needs, name-start)
-
-loop-again : tie.Need-loop-again Inv-loop μ-loop
-loop-again c = search (needs, name-turn, name-count)
-
-returns : tie.Need-returns Inv-loop μ-loop
-returns c = search (needs, name-good)
-
-returns-2 : tie.Need-returns-2 Inv-loop μ-loop
-returns-2 c = search (needs, name-bad)
-
 pub judge-name-spec : {M : Type 1} → statement M
 judge-name-spec =
     tie.close
-    (tie.spec Inv-loop μ-loop loop-holds (λ c κs. search needs) (λ c κs. search needs) (λ c. search needs) (λ c. search needs) loop-again
-    (λ c κs. search needs) returns returns-2)
+    (tie.spec Inv-loop μ-loop (λ c. search (needs, name-start)) (search needs) (search needs) (search needs) (search needs)
+    (λ c. search (needs, name-turn, name-count)) (search needs) (λ c. search (needs, name-good)) (λ c. search (needs, name-bad)))

@@ -7,5 +7,5 @@ use Rattle.decode.proofs.unit_at.Tie as tie
 pub unit-at-spec : {M : Type 1} → statement M
 unit-at-spec =
     tie.close
-    (tie.spec (λ c. search needs) (λ c κs. search needs) (λ c. search needs) (λ c. search needs) (λ c. search (needs, unit-space))
-    (λ c κs. search needs) (λ c. search needs) (λ c. search (needs, unit-plain)))
+    (tie.spec (search needs) (search needs) (λ c. search needs) (search needs) (λ c. search (needs, unit-space)) (search needs) (search needs)
+    (λ c. search (needs, unit-plain)))

@@ -4,11 +4,9 @@ use Rattle.login_get.proofs.Laws.{signed-page, room-told, signed-ticket
 use Rattle.login_get.proofs.signed_on.Statement.{statement}
 use Rattle.login_get.proofs.signed_on.Tie as tie
 
-ticket-requires : tie.Need-ticket-requires
-ticket-requires c κs = (search needs, search needs, search room-told)
-
 pub signed-on-spec : {M : Type 1} → statement M
 signed-on-spec =
     tie.close
-    (tie.spec (λ c κs. search needs) (search needs) (λ c. search signed-page) (λ c κs. search needs) ticket-requires (search needs) (search needs)
-    (λ c. search signed-ticket) (λ c κs. search needs) (search needs) (search needs) (λ c. search signed-full))
+    (tie.spec (λ c κs. search needs) (search needs) (λ c. search signed-page) (λ c κs. search needs)
+    (λ c κs. (search needs, search needs, search room-told)) (search needs) (search needs) (λ c. search signed-ticket) (λ c κs. search needs)
+    (search needs) (search needs) (λ c. search signed-full))

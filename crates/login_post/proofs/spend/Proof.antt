@@ -5,11 +5,8 @@ use Rattle.login_post.proofs.Laws.{spent-found, spent-none}
 use Rattle.login_post.proofs.spend.Statement.{statement}
 use Rattle.login_post.proofs.spend.Tie as tie
 
-free-record-requires : tie.Need-free-record-requires
-free-record-requires c κs = (search needs, search named-slot)
-
 pub spend-spec : {M : Type 1} → statement M
 spend-spec =
     tie.close
-    (tie.spec (λ c κs. search needs) (search needs) free-record-requires (search needs) (search needs) (λ c. search spent-found) (search needs)
-    (λ c. search spent-none))
+    (tie.spec (λ c κs. search needs) (search needs) (λ c κs. (search needs, search named-slot)) (search needs) (search needs)
+    (λ c. search spent-found) (search needs) (λ c. search spent-none))

@@ -5,11 +5,8 @@ use Rattle.logout.proofs.Laws.{ended, nobody}
 use Rattle.logout.proofs.end_named.Statement.{statement}
 use Rattle.logout.proofs.end_named.Tie as tie
 
-end-session-requires : tie.Need-end-session-requires
-end-session-requires c κs = (search needs, search named-slot)
-
 pub end-named-spec : {M : Type 1} → statement M
 end-named-spec =
     tie.close
-    (tie.spec (λ c κs. search needs) (λ c. search needs) end-session-requires (λ c. search needs) (λ c. search needs) (λ c. search ended)
-    (λ c. search needs) (λ c. search nobody))
+    (tie.spec (λ c κs. search needs) (λ c. search needs) (λ c κs. (search needs, search named-slot)) (λ c. search needs) (λ c. search needs)
+    (λ c. search ended) (λ c. search needs) (λ c. search nobody))

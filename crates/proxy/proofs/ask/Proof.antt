@@ -8,6 +8,6 @@ use Rattle.proxy.proofs.ask.Tie as tie
 pub ask-spec : {M : Type 1} → statement M
 ask-spec =
     tie.close
-    (tie.spec (λ c κs. search needs) (λ c κs. search needs) (λ c. search needs) (λ c. search (needs, scratch-count)) (λ c. search needs)
-    (λ c. search (needs, scratch-count)) (λ c κs. (search needs, search target-most)) (λ c. search needs) (λ c. search needs) (λ c. search needs)
-    (λ c. search needs) (λ c. search asked))
+    (tie.spec (λ c. search needs) (λ c κs. search needs) (λ c. search needs) (λ c κs. search needs) (λ c. search needs)
+    (λ c. search (needs, scratch-count)) (λ c. search needs) (λ c. search (needs, scratch-count)) (λ c κs. (search needs, search target-most))
+    (λ c. search needs) (λ c. search needs) (λ c. search asked))

@@ -8,5 +8,5 @@ pub proxy-spec : {M : Type 1} → statement M
 proxy-spec =
     tie.close
     (tie.spec (λ c κs. search needs) (λ c. search needs) (λ c κs. search needs) (λ c. search needs) (λ c κs. search needs) (λ c. search needs)
-    (λ c. search absent) (λ c κs. (search needs, search values-in)) (λ c. search needs) (λ c. search (proxy-refused, answered))
-    (λ c. search needs) (λ c. search needs) (λ c. search (proxy-refused, answered)))
+    (λ c. search absent) (λ c κs. (search needs, search values-in)) (λ c. search needs) (λ c. search proxy-refused) (λ c. search needs)
+    (λ c. search needs) (λ c. search answered))

@@ -4,12 +4,9 @@ use Rattle.proxy.proofs.Laws.{offered, room-known, ticketed, full, unre
 use Rattle.proxy.proofs.under.Statement.{statement}
 use Rattle.proxy.proofs.under.Tie as tie
 
-proxy-ticket-requires : tie.Need-proxy-ticket-requires
-proxy-ticket-requires c κs = (search offered, search needs, search needs, search room-known)
-
 pub under-spec : {M : Type 1} → statement M
 under-spec =
     tie.close
-    (tie.spec (λ c κs. search needs) (λ c κs. search needs) proxy-ticket-requires (λ c. search needs) (λ c. search needs) (λ c. search ticketed)
-    (λ c κs. search needs) (λ c. search needs) (λ c. search needs) (λ c. search full) (λ c κs. search needs) (λ c. search needs)
-    (λ c. search unregistered))
+    (tie.spec (λ c κs. search needs) (λ c κs. search needs) (λ c κs. (search offered, search needs, search needs, search room-known))
+    (λ c. search needs) (λ c. search needs) (λ c. search ticketed) (λ c κs. search needs) (λ c. search needs) (λ c. search needs) (λ c. search full)
+    (λ c κs. search needs) (λ c. search needs) (λ c. search unregistered))

@@ -7,6 +7,5 @@ use Rattle.query.proofs.next_piece.Tie as tie
 pub next-piece-spec : {M : Type 1} → statement M
 next-piece-spec =
     tie.close
-    (tie.spec (λ c κs. search needs) (λ c. search needs) (λ c. search needs) (λ c. search needs) (λ c κs. search needs) (λ c. search needs)
-    (λ c. search needs) (λ c. search needs) (λ c. search needs) (λ c κs. search needs) (λ c. search needs) (λ c. search needs)
-    (λ c. search (needs, step-piece)) (λ c. search (needs, step-bare)) (λ c. search (needs, step-end)))
+    (tie.spec (search needs) (search needs) (search needs) (search needs) (search needs) (search needs) (search needs) (search needs) (search needs)
+    (search needs) (search needs) (search needs) (λ c. search (needs, step-piece)) (λ c. search (needs, step-bare)) (λ c. search (needs, step-end)))

@@ -7,5 +7,4 @@ use Rattle.query.proofs.noted.Tie as tie
 pub noted-spec : {M : Type 1} → statement M
 noted-spec =
     tie.close
-    (tie.spec (λ c κs. search needs) (λ c. search needs) (λ c. search (needs, noted-first)) (λ c. search (needs, noted-again))
-    (λ c. search (needs, noted-not)))
+    (tie.spec (search needs) (search needs) (λ c. search (needs, noted-first)) (λ c. search (needs, noted-again)) (λ c. search (needs, noted-not)))

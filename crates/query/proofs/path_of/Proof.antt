@@ -6,8 +6,5 @@ use lib.Seq.{length-take-le}
 use Rattle.query.proofs.path_of.Statement.{statement}
 use Rattle.query.proofs.path_of.Tie as tie
 
-slice-aggregate-path-named : tie.Need-slice-aggregate-path-named
-slice-aggregate-path-named c = sym (length-take-le _ _ (search needs))
-
 pub path-of-spec : {M : Type 1} → statement M
-path-of-spec = tie.close (tie.spec (λ c κs. search needs) slice-aggregate-path-named (λ c κs. search needs) (λ c. search (needs, path-cut)))
+path-of-spec = tie.close (tie.spec (search needs) (λ c. sym (length-take-le _ _ (search needs))) (search needs) (λ c. search (needs, path-cut)))

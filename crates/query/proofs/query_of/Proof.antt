@@ -7,5 +7,5 @@ use Rattle.query.proofs.query_of.Tie as tie
 pub query-of-spec : {M : Type 1} → statement M
 query-of-spec =
     tie.close
-    (tie.spec (λ c κs. search needs) (λ c. search needs) (λ c. search needs) (λ c. search needs) (λ c. search needs) (λ c. search (needs, query-some))
-    (λ c. search needs) (λ c. search (needs, query-none)))
+    (tie.spec (search needs) (search needs) (search needs) (search needs) (search needs) (λ c. search (needs, query-some)) (search needs)
+    (λ c. search (needs, query-none)))

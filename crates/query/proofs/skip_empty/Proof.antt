@@ -14,16 +14,8 @@ Inv-loop query at i₀ i = at + leading (drop at query) ≡ i + leading (drop i 
 abbrev μ-loop : tie.MeasureT-loop
 μ-loop query at i₀ i = length query - i
 
-returns : tie.Need-returns Inv-loop μ-loop
-returns c = search (needs, skip-stop)
-
-loop-again : tie.Need-loop-again Inv-loop μ-loop
-loop-again c = search (needs, skip-on)
-
-returns-2 : tie.Need-returns-2 Inv-loop μ-loop
-returns-2 c = search (needs, skip-end)
-
 pub skip-empty-spec : {M : Type 1} → statement M
 skip-empty-spec =
     tie.close
-    (tie.spec Inv-loop μ-loop (λ c. search needs) (λ c. search needs) returns (λ c. search needs) (λ c. search needs) loop-again returns-2)
+    (tie.spec Inv-loop μ-loop (search needs) (search needs) (λ c. search (needs, skip-stop)) (search needs) (search needs)
+    (λ c. search (needs, skip-on)) (λ c. search (needs, skip-end)))

@@ -5,4 +5,4 @@ use Rattle.register.proofs.address_right.Statement.{statement}
 use Rattle.register.proofs.address_right.Tie as tie
 
 pub address-right-spec : {M : Type 1} → statement M
-address-right-spec = tie.close (tie.spec (λ c κs. search needs) (λ c κs. search needs) (λ c. search (needs, address-as)))
+address-right-spec = tie.close (tie.spec (search needs) (search needs) (λ c. search (needs, address-as)))

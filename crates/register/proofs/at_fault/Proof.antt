@@ -7,6 +7,5 @@ use Rattle.register.proofs.at_fault.Tie as tie
 pub at-fault-spec : {M : Type 1} → statement M
 at-fault-spec =
     tie.close
-    (tie.spec (λ c. search needs) (λ c. search needs) (λ c. search needs) (λ c. search needs) (λ c. search needs) (λ c κs. search needs)
-    (λ c. search (needs, blocks-before)) (λ c κs. search needs) (λ c κs. search needs) (λ c. search (needs, fault-twice))
-    (λ c. search (needs, fault-wrong)))
+    (tie.spec (search needs) (search needs) (search needs) (search needs) (search needs) (search needs) (λ c. search (needs, blocks-before))
+    (search needs) (search needs) (λ c. search (needs, fault-twice)) (λ c. search (needs, fault-wrong)))

@@ -12,5 +12,5 @@ bytes c = record { each = λ i. c .shared-slice-known .given i .fits }
 pub block-right-spec : {M : Type 1} → statement M
 block-right-spec =
     tie.close
-    (tie.spec (λ c κs. search needs) (λ c κs. search needs) (λ c κs. search needs) (λ c κs. search (needs, limit-service, limit-callback))
-    (λ c. search (block-yes, bytes)) (λ c. search (needs, block-no)))
+    (tie.spec (search needs) (search needs) (search needs) (λ c κs. search (needs, limit-service, limit-callback)) (λ c. search (block-yes, bytes))
+    (λ c. search (needs, block-no)))

@@ -9,4 +9,4 @@ unfolding decodeEntry
 returns c = search needs
 
 pub callback-in-spec : {M : Type 1} → statement M
-callback-in-spec = tie.close (tie.spec (λ c κs. search needs) returns)
+callback-in-spec = tie.close (tie.spec (search needs) returns)

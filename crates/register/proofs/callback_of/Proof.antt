@@ -7,5 +7,5 @@ use Rattle.register.proofs.callback_of.Tie as tie
 pub callback-of-spec : {M : Type 1} → statement M
 callback-of-spec =
     tie.close
-    (tie.spec (λ c κs. search needs) (λ c. search needs) (λ c. search needs) (λ c. search needs) (λ c. search needs) (λ c. search needs)
-    (λ c κs. search needs) (λ c. search (needs, callback-there)) (λ c. search needs) (λ c. search (needs, callback-nowhere)))
+    (tie.spec (search needs) (search needs) (search needs) (search needs) (search needs) (search needs) (search needs)
+    (λ c. search (needs, callback-there)) (search needs) (λ c. search (needs, callback-nowhere)))

@@ -7,5 +7,4 @@ use Rattle.register.proofs.check.Tie as tie
 pub check-spec : {M : Type 1} → statement M
 check-spec =
     tie.close
-    (tie.spec (λ c κs. search needs) (λ c κs. search needs) (λ c. search (needs, check-fault)) (λ c. search (needs, check-none))
-    (λ c. search (needs, check-shape)))
+    (tie.spec (search needs) (search needs) (λ c. search (needs, check-fault)) (λ c. search (needs, check-none)) (λ c. search (needs, check-shape)))

@@ -5,4 +5,4 @@ use Rattle.register.proofs.entry_right.Statement.{statement}
 use Rattle.register.proofs.entry_right.Tie as tie
 
 pub entry-right-spec : {M : Type 1} → statement M
-entry-right-spec = tie.close (tie.spec (λ c κs. search needs) (λ c κs. search needs) (λ c κs. search needs) (λ c. search (needs, entry-as)))
+entry-right-spec = tie.close (tie.spec (search needs) (search needs) (search needs) (λ c. search (needs, entry-as)))

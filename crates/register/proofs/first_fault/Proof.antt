@@ -11,22 +11,8 @@ Inv-loop b m k₀ k = Seeking b m k
 abbrev μ-loop : tie.MeasureT-loop
 μ-loop b m k₀ k = m - k
 
-loop-holds : tie.Need-loop-holds Inv-loop μ-loop
-loop-holds c = search (needs, seek-start)
-
-at-fault-requires : tie.Need-at-fault-requires Inv-loop μ-loop
-at-fault-requires c κs = search (needs, seek-inside)
-
-returns : tie.Need-returns Inv-loop μ-loop
-returns c = search (needs, seek-hit)
-
-loop-again : tie.Need-loop-again Inv-loop μ-loop
-loop-again c = search (needs, seek-next)
-
-returns-2 : tie.Need-returns-2 Inv-loop μ-loop
-returns-2 c = search (needs, seek-none)
-
 pub first-fault-spec : {M : Type 1} → statement M
 first-fault-spec =
     tie.close
-    (tie.spec Inv-loop μ-loop loop-holds at-fault-requires returns (λ c. search needs) (λ c. search needs) loop-again returns-2)
+    (tie.spec Inv-loop μ-loop (λ c. search (needs, seek-start)) (λ c κs. search (needs, seek-inside)) (λ c. search (needs, seek-hit)) (search needs)
+    (search needs) (λ c. search (needs, seek-next)) (λ c. search (needs, seek-none)))

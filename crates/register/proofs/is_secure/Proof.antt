@@ -7,5 +7,4 @@ use Rattle.register.proofs.is_secure.Tie as tie
 pub is-secure-spec : {M : Type 1} → statement M
 is-secure-spec =
     tie.close
-    (tie.spec (λ c. search (needs, secure-short)) (λ c. search (needs, first-eight)) (λ c. search needs) (λ c κs. search needs)
-    (λ c. search (needs, secure-long)))
+    (tie.spec (λ c. search (needs, secure-short)) (λ c. search (needs, first-eight)) (search needs) (search needs) (λ c. search (needs, secure-long)))

@@ -7,5 +7,5 @@ use Rattle.register.proofs.panel.Tie as tie
 pub panel-spec : {M : Type 1} → statement M
 panel-spec =
     tie.close
-    (tie.spec (λ c κs. search needs) (λ c. search (needs, panel-refused)) (λ c κs. search (needs, panel-block, panel-service, panel-callback))
-    (λ c. search needs) (λ c. search (needs, panel-done)))
+    (tie.spec (search needs) (λ c. search (needs, panel-refused)) (λ c κs. search (needs, panel-block, panel-service, panel-callback)) (search needs)
+    (λ c. search (needs, panel-done)))

@@ -7,4 +7,4 @@ use Rattle.register.proofs.panel_refusal.Tie as tie
 pub panel-refusal-spec : {M : Type 1} → statement M
 panel-refusal-spec =
     tie.close
-    (tie.spec (λ c κs. search needs) (λ c. search (needs, panel-fits)) (λ c. search (needs, panel-size)) (λ c. search (needs, panel-unfit)))
+    (tie.spec (search needs) (λ c. search (needs, panel-fits)) (λ c. search (needs, panel-size)) (λ c. search (needs, panel-unfit)))

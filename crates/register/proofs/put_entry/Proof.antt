@@ -15,7 +15,4 @@ returns c =
     entry-filled (s .args .service .now) (s .args .callback .now) (s .args .b .now) (s .pre .0) (s .pre .1) (s .pre .2) (p5 .seal .ensures) (p4 .pad-at2 .ensures) (p3 .pad-at .ensures) (p2 .put2 .ensures) (p1 .put .ensures)
 
 pub put-entry-spec : {M : Type 1} → statement M
-put-entry-spec =
-    tie.close
-    (tie.spec (λ c κs. search needs) (λ c κs. search needs) (λ c κs. search needs) (λ c κs. search needs) (λ c κs. search needs) (λ c. search needs)
-    returns)
+put-entry-spec = tie.close (tie.spec (search needs) (search needs) (search needs) (search needs) (search needs) (search needs) returns)

@@ -5,4 +5,4 @@ use Rattle.register.proofs.register_lawful.Statement.{statement}
 use Rattle.register.proofs.register_lawful.Tie as tie
 
 pub register-lawful-spec : {M : Type 1} → statement M
-register-lawful-spec = tie.close (tie.spec (λ c κs. search needs) (λ c. search (needs, lawful-as)))
+register-lawful-spec = tie.close (tie.spec (search needs) (λ c. search (needs, lawful-as)))

@@ -5,4 +5,4 @@ use Rattle.register.proofs.registered.Statement.{statement}
 use Rattle.register.proofs.registered.Tie as tie
 
 pub registered-spec : {M : Type 1} → statement M
-registered-spec = tie.close (tie.spec (λ c κs. search needs) (λ c. search (needs, stands)))
+registered-spec = tie.close (tie.spec (search needs) (λ c. search (needs, stands)))

@@ -7,5 +7,4 @@ use Rattle.register.proofs.service_at.Tie as tie
 pub service-at-spec : {M : Type 1} → statement M
 service-at-spec =
     tie.close
-    (tie.spec (λ c. search needs) (λ c. search needs) (λ c. search needs) (λ c. search needs) (λ c. search needs) (λ c κs. search needs)
-    (λ c. search (needs, service-there)))
+    (tie.spec (search needs) (search needs) (search needs) (search needs) (search needs) (search needs) (λ c. search (needs, service-there)))

@@ -9,4 +9,4 @@ unfolding decodeEntry
 returns c = search needs
 
 pub service-of-spec : {M : Type 1} → statement M
-service-of-spec = tie.close (tie.spec (λ c κs. search needs) returns)
+service-of-spec = tie.close (tie.spec (search needs) returns)

@@ -7,5 +7,5 @@ use Rattle.register.proofs.text_of.Tie as tie
 pub text-of-spec : {M : Type 1} → statement M
 text-of-spec =
     tie.close
-    (tie.spec (λ c κs. search needs) (λ c. search needs) (λ c. search needs) (λ c. search needs) (λ c. search needs) (λ c. search needs)
-    (λ c. search (needs, text-inside)) (λ c. search needs) (λ c. search needs) (λ c. search needs) (λ c. search (needs, text-cut)))
+    (tie.spec (search needs) (search needs) (search needs) (search needs) (search needs) (search needs) (λ c. search (needs, text-inside))
+    (search needs) (search needs) (search needs) (λ c. search (needs, text-cut)))

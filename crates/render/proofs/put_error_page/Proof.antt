@@ -7,5 +7,5 @@ use Rattle.render.proofs.put_error_page.Tie as tie
 pub put-error-page-spec : {M : Type 1} → statement M
 put-error-page-spec =
     tie.close
-    (tie.spec (λ c. search needs) (λ c. search needs) (λ c. search needs) (λ c. search needs) (λ c κs. search (needs, error-room)) (λ c. search needs)
+    (tie.spec (search needs) (search needs) (search needs) (search needs) (λ c κs. search (needs, error-room)) (search needs)
     (λ c. search (needs, error-wrote)))

@@ -7,6 +7,5 @@ use Rattle.render.proofs.put_form.Tie as tie
 pub put-form-spec : {M : Type 1} → statement M
 put-form-spec =
     tie.close
-    (tie.spec (λ c. search needs) (λ c. search needs) (λ c. search needs) (λ c κs. search (needs, plain-room)) (λ c. search needs)
-    (λ c. search (needs, plain-wrote)) (λ c. search needs) (λ c. search needs) (λ c κs. search (needs, served-room)) (λ c. search needs)
-    (λ c. search (needs, served-wrote)))
+    (tie.spec (search needs) (search needs) (search needs) (λ c κs. search (needs, plain-room)) (search needs) (λ c. search (needs, plain-wrote))
+    (search needs) (search needs) (λ c κs. search (needs, served-room)) (search needs) (λ c. search (needs, served-wrote)))

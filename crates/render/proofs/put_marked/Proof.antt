@@ -7,6 +7,6 @@ use Rattle.render.proofs.put_marked.Tie as tie
 pub put-marked-spec : {M : Type 1} → statement M
 put-marked-spec =
     tie.close
-    (tie.spec (λ c κs. search needs) (λ c. search needs) (λ c. search needs) (λ c. search needs) (λ c κs. search (needs, and-room))
-    (λ c. search needs) (λ c. search (needs, and-wrote)) (λ c. search needs) (λ c. search needs) (λ c. search needs)
-    (λ c κs. search (needs, ask-room)) (λ c. search needs) (λ c. search (needs, ask-wrote)))
+    (tie.spec (search needs) (search needs) (search needs) (search needs) (λ c κs. search (needs, and-room)) (search needs)
+    (λ c. search (needs, and-wrote)) (search needs) (search needs) (search needs) (λ c κs. search (needs, ask-room)) (search needs)
+    (λ c. search (needs, ask-wrote)))

@@ -7,5 +7,5 @@ use Rattle.render.proofs.put_redirect.Tie as tie
 pub put-redirect-spec : {M : Type 1} → statement M
 put-redirect-spec =
     tie.close
-    (tie.spec (λ c κs. search needs) (λ c. search needs) (λ c. search (needs, alone-wrote)) (λ c κs. search (needs, service-room)) (λ c. search needs)
-    (λ c. search needs) (λ c. search needs) (λ c κs. search (needs, ticket-room)) (λ c. search needs) (λ c. search (needs, redirect-wrote)))
+    (tie.spec (search needs) (search needs) (λ c. search (needs, alone-wrote)) (λ c κs. search (needs, service-room)) (search needs) (search needs)
+    (search needs) (λ c κs. search (needs, ticket-room)) (search needs) (λ c. search (needs, redirect-wrote)))

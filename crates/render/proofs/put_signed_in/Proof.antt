@@ -5,4 +5,4 @@ use Rattle.render.proofs.put_signed_in.Statement.{statement}
 use Rattle.render.proofs.put_signed_in.Tie as tie
 
 pub put-signed-in-spec : {M : Type 1} → statement M
-put-signed-in-spec = tie.close (tie.spec (λ c. search needs) (λ c κs. search needs) (λ c. search needs) (λ c. search (needs, signed-in-wrote)))
+put-signed-in-spec = tie.close (tie.spec (search needs) (search needs) (search needs) (λ c. search (needs, signed-in-wrote)))

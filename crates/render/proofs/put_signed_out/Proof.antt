@@ -7,5 +7,5 @@ use Rattle.render.proofs.put_signed_out.Tie as tie
 pub put-signed-out-spec : {M : Type 1} → statement M
 put-signed-out-spec =
     tie.close
-    (tie.spec (λ c. search needs) (λ c κs. search needs) (λ c. search needs) (λ c. search (needs, signed-out-wrote)) (λ c. search needs)
-    (λ c. search needs) (λ c. search needs) (λ c κs. search (needs, linked-room)) (λ c. search needs) (λ c. search (needs, linked-wrote)))
+    (tie.spec (search needs) (search needs) (search needs) (λ c. search (needs, signed-out-wrote)) (search needs) (search needs) (search needs)
+    (λ c κs. search (needs, linked-room)) (search needs) (λ c. search (needs, linked-wrote)))

@@ -7,5 +7,5 @@ use Rattle.render.proofs.put_yes_no.Tie as tie
 pub put-yes-no-spec : {M : Type 1} → statement M
 put-yes-no-spec =
     tie.close
-    (tie.spec (λ c. search needs) (λ c κs. search needs) (λ c. search needs) (λ c. search (needs, yes-wrote)) (λ c. search needs)
-    (λ c κs. search needs) (λ c. search needs) (λ c. search (needs, no-wrote)))
+    (tie.spec (search needs) (search needs) (search needs) (λ c. search (needs, yes-wrote)) (search needs) (search needs) (search needs)
+    (λ c. search (needs, no-wrote)))

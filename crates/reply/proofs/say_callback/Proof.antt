@@ -5,4 +5,4 @@ use Rattle.reply.proofs.say_callback.Statement.{statement}
 use Rattle.reply.proofs.say_callback.Tie as tie
 
 pub say-callback-spec : {M : Type 1} → statement M
-say-callback-spec = tie.close (tie.spec (λ c κs. search needs) (λ c κs. search needs) (λ c. search needs) (λ c. search said-callback))
+say-callback-spec = tie.close (tie.spec (search needs) (search needs) (search needs) (λ c. search said-callback))

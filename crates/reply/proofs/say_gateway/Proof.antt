@@ -1,10 +1,10 @@
 -- The bytes written and their result say the reply.
 use borrow.Author.Needs.{needs}
-use Rattle.reply.proofs.Laws.{said-gateway}
+use Rattle.protocol.specs.Answers.{replyAnswer}
+use Rattle.reply.proofs.Laws.{said}
 use Rattle.reply.proofs.say_gateway.Statement.{statement}
 use Rattle.reply.proofs.say_gateway.Tie as tie
 
 pub say-gateway-spec : {M : Type 1} → statement M
-say-gateway-spec =
-    tie.close
-    (tie.spec (λ c. search needs) (λ c κs. search needs) (λ c κs. search needs) (λ c. search needs) (λ c. search said-gateway))
+unfolding replyAnswer
+say-gateway-spec = tie.close (tie.spec (search needs) (search needs) (search needs) (search needs) (λ c. search said))

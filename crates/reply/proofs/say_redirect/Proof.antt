@@ -5,4 +5,4 @@ use Rattle.reply.proofs.say_redirect.Statement.{statement}
 use Rattle.reply.proofs.say_redirect.Tie as tie
 
 pub say-redirect-spec : {M : Type 1} → statement M
-say-redirect-spec = tie.close (tie.spec (λ c κs. search needs) (λ c κs. search needs) (λ c. search needs) (λ c. search said-redirect))
+say-redirect-spec = tie.close (tie.spec (search needs) (search needs) (search needs) (λ c. search said-redirect))

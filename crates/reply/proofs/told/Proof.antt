@@ -9,4 +9,4 @@ unfolding toldOf
 returns c = rw (c .before .status-of .ensures, c .serial-of .ensures)
 
 pub told-spec : {M : Type 1} → statement M
-told-spec = tie.close (tie.spec (λ c κs. search needs) (λ c κs. search needs) returns)
+told-spec = tie.close (tie.spec (search needs) (search needs) returns)

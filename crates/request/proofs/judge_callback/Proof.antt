@@ -7,5 +7,5 @@ use Rattle.request.proofs.judge_callback.Tie as tie
 pub judge-callback-spec : {M : Type 1} → statement M
 judge-callback-spec =
     tie.close
-    (tie.spec (λ c. search needs) (λ c κs. search needs) (λ c. search needs) (λ c κs. search needs) (λ c. search needs) (λ c κs. search needs)
-    (λ c. search (needs, callback-skipped)) (λ c. search (needs, callback-of-service)) (λ c. search (needs, callback-of-proxy)))
+    (tie.spec (search needs) (search needs) (search needs) (search needs) (search needs) (search needs) (λ c. search (needs, callback-skipped))
+    (λ c. search (needs, callback-of-service)) (λ c. search (needs, callback-of-proxy)))

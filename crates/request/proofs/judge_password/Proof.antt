@@ -5,6 +5,4 @@ use Rattle.request.proofs.judge_password.Statement.{statement}
 use Rattle.request.proofs.judge_password.Tie as tie
 
 pub judge-password-spec : {M : Type 1} → statement M
-judge-password-spec =
-    tie.close
-    (tie.spec (λ c κs. search needs) (λ c κs. search needs) (λ c κs. search needs) (λ c. search (needs, password-judged)))
+judge-password-spec = tie.close (tie.spec (search needs) (search needs) (search needs) (λ c. search (needs, password-judged)))

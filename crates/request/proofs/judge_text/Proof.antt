@@ -5,4 +5,4 @@ use Rattle.request.proofs.judge_text.Statement.{statement}
 use Rattle.request.proofs.judge_text.Tie as tie
 
 pub judge-text-spec : {M : Type 1} → statement M
-judge-text-spec = tie.close (tie.spec (λ c κs. search needs) (λ c κs. search needs) (λ c κs. search needs) (λ c. search (needs, text-judged)))
+judge-text-spec = tie.close (tie.spec (search needs) (search needs) (search needs) (λ c. search (needs, text-judged)))

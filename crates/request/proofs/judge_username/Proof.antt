@@ -5,6 +5,4 @@ use Rattle.request.proofs.judge_username.Statement.{statement}
 use Rattle.request.proofs.judge_username.Tie as tie
 
 pub judge-username-spec : {M : Type 1} → statement M
-judge-username-spec =
-    tie.close
-    (tie.spec (λ c κs. search needs) (λ c κs. search needs) (λ c κs. search needs) (λ c. search (needs, username-judged)))
+judge-username-spec = tie.close (tie.spec (search needs) (search needs) (search needs) (λ c. search (needs, username-judged)))

@@ -7,5 +7,5 @@ use Rattle.request.proofs.login_query.Tie as tie
 pub login-query-spec : {M : Type 1} → statement M
 login-query-spec =
     tie.close
-    (tie.spec (λ c. search needs) (λ c. search needs) (λ c. search needs) (λ c. search needs) (λ c κs. search needs) (λ c κs. search needs)
-    (λ c κs. search needs) (λ c κs. search needs) (λ c. search (needs, asked-malformed)) (λ c. search (needs, asked-given)))
+    (tie.spec (search needs) (search needs) (search needs) (search needs) (search needs) (search needs) (search needs) (search needs)
+    (λ c. search (needs, asked-malformed)) (λ c. search (needs, asked-given)))

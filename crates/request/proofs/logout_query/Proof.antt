@@ -7,5 +7,5 @@ use Rattle.request.proofs.logout_query.Tie as tie
 pub logout-query-spec : {M : Type 1} → statement M
 logout-query-spec =
     tie.close
-    (tie.spec (λ c. search needs) (λ c. search needs) (λ c. search needs) (λ c. search needs) (λ c κs. search needs) (λ c κs. search needs)
-    (λ c. search (needs, leaving-malformed)) (λ c. search (needs, leaving-given)))
+    (tie.spec (search needs) (search needs) (search needs) (search needs) (search needs) (search needs) (λ c. search (needs, leaving-malformed))
+    (λ c. search (needs, leaving-given)))

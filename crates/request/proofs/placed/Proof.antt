@@ -7,5 +7,5 @@ use Rattle.request.proofs.placed.Tie as tie
 pub placed-spec : {M : Type 1} → statement M
 placed-spec =
     tie.close
-    (tie.spec (λ c. search needs) (λ c. search needs) (λ c κs. search needs) (λ c. search (needs, placed-bad)) (λ c κs. search needs)
-    (λ c. search (needs, placed-twice)) (λ c κs. search needs) (λ c. search (needs, placed-once)))
+    (tie.spec (search needs) (search needs) (search needs) (λ c. search (needs, placed-bad)) (search needs) (λ c. search (needs, placed-twice))
+    (search needs) (λ c. search (needs, placed-once)))

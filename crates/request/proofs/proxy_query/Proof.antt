@@ -7,5 +7,5 @@ use Rattle.request.proofs.proxy_query.Tie as tie
 pub proxy-query-spec : {M : Type 1} → statement M
 proxy-query-spec =
     tie.close
-    (tie.spec (λ c. search needs) (λ c. search needs) (λ c. search needs) (λ c. search needs) (λ c κs. search needs) (λ c κs. search needs)
-    (λ c κs. search needs) (λ c. search (needs, wanted-malformed)) (λ c. search (needs, wanted-given)))
+    (tie.spec (search needs) (search needs) (search needs) (search needs) (search needs) (search needs) (search needs)
+    (λ c. search (needs, wanted-malformed)) (λ c. search (needs, wanted-given)))

@@ -5,6 +5,4 @@ use Rattle.request.proofs.read.Statement.{statement}
 use Rattle.request.proofs.read.Tie as tie
 
 pub read-spec : {M : Type 1} → statement M
-read-spec =
-    tie.close
-    (tie.spec (λ c κs. search needs) (λ c κs. search (needs, read-room, read-bytes)) (λ c. search needs) (λ c. search (needs, read-wrote)))
+read-spec = tie.close (tie.spec (search needs) (λ c κs. search (needs, read-room, read-bytes)) (search needs) (λ c. search (needs, read-wrote)))

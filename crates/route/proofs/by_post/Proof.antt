@@ -7,7 +7,7 @@ use Rattle.route.proofs.by_post.Tie as tie
 pub by-post-spec : {M : Type 1} → statement M
 by-post-spec =
     tie.close
-    (tie.spec (λ c. search needs) (λ c κs. search needs) (λ c. search needs) (λ c κs. search needs) (λ c. search needs)
-    (λ c κs. search needs) (λ c. search needs) (λ c κs. search needs) (λ c. search needs) (λ c κs. search needs) (λ c. search needs)
-    (λ c. search needs) (λ c. search needs) (λ c. search post-login) (λ c. search needs) (λ c. search post-logout) (λ c. search needs)
-    (λ c. search post-validate) (λ c. search needs) (λ c. search post-proxy) (λ c. search needs) (λ c. search post-unknown))
+    (tie.spec (λ c. search needs) (λ c κs. search needs) (λ c. search needs) (λ c κs. search needs) (λ c. search needs) (λ c κs. search needs)
+    (λ c. search needs) (λ c κs. search needs) (λ c. search needs) (λ c κs. search needs) (λ c. search needs) (λ c. search needs) (λ c. search needs)
+    (λ c. search post-login) (λ c. search needs) (λ c. search post-logout) (λ c. search needs) (λ c. search post-validate) (λ c. search needs)
+    (λ c. search post-proxy) (λ c. search needs) (λ c. search post-unknown))

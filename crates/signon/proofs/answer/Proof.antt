@@ -5,14 +5,9 @@ use Rattle.signon.proofs.Laws.{answer-lawful, answer-time, answer-cooki
 use Rattle.signon.proofs.answer.Statement.{statement}
 use Rattle.signon.proofs.answer.Tie as tie
 
-tick-requires : tie.Need-tick-requires
-tick-requires c κs = (search answer-lawful, search answer-time)
-
-request-requires : tie.Need-request-requires
-request-requires c κs = (search answer-lent, search answer-cookie)
-
 pub answer-spec : {M : Type 1} → statement M
 answer-spec =
     tie.close
-    (tie.spec (λ c κs. search needs) (λ c κs. search needs) (λ c. search needs) (λ c. search top-refused) tick-requires request-requires
-    (λ c. search needs) (λ c. search needs) (λ c. search needs) (λ c. search answer-done))
+    (tie.spec (λ c κs. search needs) (λ c κs. search needs) (λ c. search needs) (λ c. search top-refused)
+    (λ c κs. (search answer-lawful, search answer-time)) (λ c κs. (search answer-lent, search answer-cookie)) (λ c. search needs) (λ c. search needs)
+    (λ c. search needs) (λ c. search answer-done))

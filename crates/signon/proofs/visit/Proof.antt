@@ -5,8 +5,8 @@ use Rattle.signon.proofs.Laws.{visit-fine, visit-room, visit-drawn, vis
 use Rattle.signon.proofs.visit.Statement.{statement}
 use Rattle.signon.proofs.visit.Tie as tie
 
-tell-requires : tie.Need-tell-requires
-tell-requires c κs = (search visit-fine, search visit-time, search visit-drawn, search visit-room)
-
 pub visit-spec : {M : Type 1} → statement M
-visit-spec = tie.close (tie.spec (λ c κs. search needs) (λ c. search visit-refused) tell-requires (λ c. search needs) (λ c. search visit-told))
+visit-spec =
+    tie.close
+    (tie.spec (λ c κs. search needs) (λ c. search visit-refused)
+    (λ c κs. (search visit-fine, search visit-time, search visit-drawn, search visit-room)) (λ c. search needs) (λ c. search visit-told))

@@ -14,20 +14,8 @@ Inv-loop out₀ at template n a b c i₀ to₀ out i to = (i ≤ length template
 abbrev μ-loop : tie.MeasureT-loop
 μ-loop out₀ at template n a b c i₀ to₀ out i to = length template - i
 
-loop-holds : tie.Need-loop-holds Inv-loop μ-loop
-loop-holds c = search (needs, left-start)
-
-put-slot-requires : tie.Need-put-slot-requires Inv-loop μ-loop
-put-slot-requires c κs = search (needs, fill-room)
-
-loop-again : tie.Need-loop-again Inv-loop μ-loop
-loop-again c = search (needs, fill-turn)
-
-returns : tie.Need-returns Inv-loop μ-loop
-returns c = search (needs, fill-done)
-
 pub put-template-spec : {M : Type 1} → statement M
 put-template-spec =
     tie.close
-    (tie.spec Inv-loop μ-loop loop-holds (λ c. search needs) put-slot-requires (λ c. search needs) (λ c. search needs) loop-again (λ c. search needs)
-    returns)
+    (tie.spec Inv-loop μ-loop (λ c. search (needs, left-start)) (search needs) (λ c κs. search (needs, fill-room)) (search needs) (search needs)
+    (λ c. search (needs, fill-turn)) (search needs) (λ c. search (needs, fill-done)))

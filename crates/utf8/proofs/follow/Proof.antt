@@ -7,5 +7,5 @@ use Rattle.utf8.proofs.follow.Tie as tie
 pub follow-spec : {M : Type 1} → statement M
 follow-spec =
     tie.close
-    (tie.spec (λ c. search needs) (λ c κs. search needs) (λ c. search needs) (λ c κs. search needs) (λ c. search needs) (λ c. search follow-first)
-    (λ c. search follow-tail) (λ c. search needs))
+    (tie.spec (search needs) (search needs) (search needs) (search needs) (search needs) (λ c. search follow-first) (λ c. search follow-tail)
+    (λ c. search needs))

@@ -16,14 +16,8 @@ Inv-loop bytes state₀ i₀ state i = judgedFrom state (drop i bytes) ≡ nameR
 abbrev μ-loop : tie.MeasureT-loop
 μ-loop bytes state₀ i₀ state i = length bytes - i
 
-loop-again : tie.Need-loop-again Inv-loop μ-loop
-loop-again c = search (needs, name-turn)
-
-returns : tie.Need-returns Inv-loop μ-loop
-returns c = search (needs, name-done)
-
 pub is-name-spec : {M : Type 1} → statement M
 is-name-spec =
     tie.close
-    (tie.spec Inv-loop μ-loop (λ c. judged-name _) (λ c. search needs) (λ c κs. search needs) (λ c κs. search needs) (λ c. search needs)
-    (λ c. search needs) loop-again (λ c κs. search needs) returns)
+    (tie.spec Inv-loop μ-loop (λ c. judged-name _) (search needs) (search needs) (search needs) (search needs) (search needs)
+    (λ c. search (needs, name-turn)) (search needs) (λ c. search (needs, name-done)))

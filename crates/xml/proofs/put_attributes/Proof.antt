@@ -7,5 +7,5 @@ use Rattle.xml.proofs.put_attributes.Tie as tie
 pub put-attributes-spec : {M : Type 1} → statement M
 put-attributes-spec =
     tie.close
-    (tie.spec (λ c. search needs) (λ c κs. search (needs, attributes-room)) (λ c κs. search (needs, date-room)) (λ c κs. search (needs, mark-room))
-    (λ c. search needs) (λ c. search (needs, attributes-wrote)))
+    (tie.spec (search needs) (λ c κs. search (needs, attributes-room)) (λ c κs. search (needs, date-room)) (λ c κs. search (needs, mark-room))
+    (search needs) (λ c. search (needs, attributes-wrote)))

@@ -5,6 +5,4 @@ use Rattle.xml.proofs.put_failure.Statement.{statement}
 use Rattle.xml.proofs.put_failure.Tie as tie
 
 pub put-failure-spec : {M : Type 1} → statement M
-put-failure-spec =
-    tie.close
-    (tie.spec (λ c. search needs) (λ c κs. search (needs, failure-room)) (λ c. search needs) (λ c. search (needs, failure-wrote)))
+put-failure-spec = tie.close (tie.spec (search needs) (λ c κs. search (needs, failure-room)) (search needs) (λ c. search (needs, failure-wrote)))

@@ -7,10 +7,9 @@ use Rattle.xml.proofs.put_failure_by.Tie as tie
 pub put-failure-by-spec : {M : Type 1} → statement M
 put-failure-by-spec =
     tie.close
-    (tie.spec (λ c. search needs) (λ c. search needs) (λ c κs. search (needs, by-code-room)) (λ c. search needs) (λ c. search needs)
-    (λ c κs. search (needs, by-code-room)) (λ c. search needs) (λ c. search needs) (λ c κs. search (needs, by-code-room)) (λ c. search needs)
-    (λ c. search needs) (λ c κs. search (needs, by-code-room)) (λ c. search needs) (λ c. search needs) (λ c κs. search (needs, by-code-room))
-    (λ c. search needs) (λ c. search needs) (λ c κs. search (needs, by-code-room)) (λ c. search needs) (λ c. search (needs, by-code-wrote))
-    (λ c. search needs) (λ c. search (needs, by-code-wrote)) (λ c. search needs) (λ c. search (needs, by-code-wrote)) (λ c. search needs)
-    (λ c. search (needs, by-code-wrote)) (λ c. search needs) (λ c. search (needs, by-code-wrote)) (λ c. search needs)
-    (λ c. search (needs, by-code-wrote)))
+    (tie.spec (search needs) (search needs) (λ c κs. search (needs, by-code-room)) (search needs) (search needs)
+    (λ c κs. search (needs, by-code-room)) (search needs) (search needs) (λ c κs. search (needs, by-code-room)) (search needs) (search needs)
+    (λ c κs. search (needs, by-code-room)) (search needs) (search needs) (λ c κs. search (needs, by-code-room)) (search needs) (search needs)
+    (λ c κs. search (needs, by-code-room)) (search needs) (λ c. search (needs, by-code-wrote)) (search needs) (λ c. search (needs, by-code-wrote))
+    (search needs) (λ c. search (needs, by-code-wrote)) (search needs) (λ c. search (needs, by-code-wrote)) (search needs)
+    (λ c. search (needs, by-code-wrote)) (search needs) (λ c. search (needs, by-code-wrote)))

@@ -7,5 +7,4 @@ use Rattle.xml.proofs.put_failure_of.Tie as tie
 pub put-failure-of-spec : {M : Type 1} → statement M
 put-failure-of-spec =
     tie.close
-    (tie.spec (λ c. search needs) (λ c. search needs) (λ c κs. search (needs, failure-of-room)) (λ c. search needs)
-    (λ c. search (needs, failure-of-wrote)))
+    (tie.spec (search needs) (search needs) (λ c κs. search (needs, failure-of-room)) (search needs) (λ c. search (needs, failure-of-wrote)))

@@ -7,5 +7,5 @@ use Rattle.xml.proofs.put_iou.Tie as tie
 pub put-iou-spec : {M : Type 1} → statement M
 put-iou-spec =
     tie.close
-    (tie.spec (λ c. search (needs, no-iou)) (λ c. search needs) (λ c. search needs) (λ c. search needs) (λ c κs. search (needs, iou-room))
-    (λ c. search needs) (λ c. search (needs, iou-wrote)))
+    (tie.spec (λ c. search (needs, no-iou)) (search needs) (search needs) (search needs) (λ c κs. search (needs, iou-room)) (search needs)
+    (λ c. search (needs, iou-wrote)))

@@ -7,5 +7,5 @@ use Rattle.xml.proofs.put_mark.Tie as tie
 pub put-mark-spec : {M : Type 1} → statement M
 put-mark-spec =
     tie.close
-    (tie.spec (λ c. search needs) (λ c κs. search (needs, false-room)) (λ c. search needs) (λ c. search (needs, false-wrote)) (λ c. search needs)
-    (λ c κs. search (needs, true-room)) (λ c. search needs) (λ c. search (needs, true-wrote)))
+    (tie.spec (search needs) (λ c κs. search (needs, false-room)) (search needs) (λ c. search (needs, false-wrote)) (search needs)
+    (λ c κs. search (needs, true-room)) (search needs) (λ c. search (needs, true-wrote)))

@@ -7,5 +7,4 @@ use Rattle.xml.proofs.put_proxy.Tie as tie
 pub put-proxy-spec : {M : Type 1} → statement M
 put-proxy-spec =
     tie.close
-    (tie.spec (λ c. search needs) (λ c. search needs) (λ c. search needs) (λ c κs. search (needs, proxy-room)) (λ c. search needs)
-    (λ c. search (needs, proxy-wrote)))
+    (tie.spec (search needs) (search needs) (search needs) (λ c κs. search (needs, proxy-room)) (search needs) (λ c. search (needs, proxy-wrote)))

@@ -7,4 +7,4 @@ use Rattle.xml.proofs.put_proxy_failure.Tie as tie
 pub put-proxy-failure-spec : {M : Type 1} → statement M
 put-proxy-failure-spec =
     tie.close
-    (tie.spec (λ c. search needs) (λ c κs. search (needs, refusal-room)) (λ c. search needs) (λ c. search (needs, refusal-wrote)))
+    (tie.spec (search needs) (λ c κs. search (needs, refusal-room)) (search needs) (λ c. search (needs, refusal-wrote)))

@@ -7,5 +7,5 @@ use Rattle.xml.proofs.put_proxy_success.Tie as tie
 pub put-proxy-success-spec : {M : Type 1} → statement M
 put-proxy-success-spec =
     tie.close
-    (tie.spec (λ c. search needs) (λ c. search needs) (λ c. search needs) (λ c κs. search (needs, proxy-ticket-room)) (λ c. search needs)
+    (tie.spec (search needs) (search needs) (search needs) (λ c κs. search (needs, proxy-ticket-room)) (search needs)
     (λ c. search (needs, proxy-ticket-wrote)))

@@ -7,5 +7,4 @@ use Rattle.xml.proofs.put_user.Tie as tie
 pub put-user-spec : {M : Type 1} → statement M
 put-user-spec =
     tie.close
-    (tie.spec (λ c. search needs) (λ c. search needs) (λ c. search needs) (λ c κs. search (needs, user-room)) (λ c. search needs)
-    (λ c. search (needs, user-wrote)))
+    (tie.spec (search needs) (search needs) (search needs) (λ c κs. search (needs, user-room)) (search needs) (λ c. search (needs, user-wrote)))

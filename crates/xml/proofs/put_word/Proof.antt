@@ -7,5 +7,4 @@ use Rattle.xml.proofs.put_word.Tie as tie
 pub put-word-spec : {M : Type 1} → statement M
 put-word-spec =
     tie.close
-    (tie.spec (λ c. search needs) (λ c. search needs) (λ c. search needs) (λ c κs. search (needs, word-room)) (λ c. search needs)
-    (λ c. search (needs, word-wrote)))
+    (tie.spec (search needs) (search needs) (search needs) (λ c κs. search (needs, word-room)) (search needs) (λ c. search (needs, word-wrote)))

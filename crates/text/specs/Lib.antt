@@ -1,0 +1,2 @@
+-- Where a byte first stands in a text.
+pub mod First
