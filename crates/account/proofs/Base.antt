@@ -9,8 +9,19 @@ use borrow.Author.Tests.{ne-eqb}
 use lib.Dec.{eqb, lit<}
 use lib.ListN.{length, getD, set, take}
 use Rattle.protocol.specs.Bytes.{if, upTo, past, decimal, hex}
-use Rattle.protocol.specs.Tickets.{ticketText, secretLength}
+use Rattle.protocol.specs.Tickets.{ticketText, secretLength, aGrant}
 use Rattle.protocol.proofs.Names.{readDecimal, digits-read, digits-within, upTo-digits}
+use Rattle.account.specs.Notebook.{Fate, held, cameTo, Line, line}
+
+abbrev pub isHeld : Fate → Bool
+isHeld f = cameTo held f
+
+-- a line that comes to an end, and a waiting grant's that becomes a grant's
+abbrev pub close : Fate → Line → Line
+close f e = line (e .kind) (e .name) (e .ref) (e .session) (e .user) (e .until) (e .expiry) f
+
+abbrev pub raise : Line → Line
+raise e = line aGrant (e .name) (e .ref) (e .session) (e .user) (e .until) (e .until) (e .fate)
 
 -- the two cases of a test, with the equation
 pub data Case (b : Bool) : Type 0 where
@@ -36,6 +47,11 @@ pub if-same : {A : Type 0} (b : Bool) (x : A) → if b x x ≡ x
 if-same true x = refl
 if-same false x = refl
 
+-- a choice keeps what both ends have
+pub if-keeps : {A B : Type 0} (f : A → B) (b : Bool) (x y : A) → f x ≡ f y → f (if b x y) ≡ f y
+if-keeps f true x y e = e
+if-keeps f false x y e = refl
+
 pub untrue : (b : Bool) → (b ≡ true → ⊥) → b ≡ false
 untrue true f = absurd (f refl)
 untrue false f = refl
@@ -43,6 +59,10 @@ untrue false f = refl
 pub and-yes : (b : Bool) → (b && true) ≡ b
 and-yes true = refl
 and-yes false = refl
+
+pub or-no : (b : Bool) → (b || false) ≡ b
+or-no true = refl
+or-no false = refl
 
 pub or-left : (a b : Bool) → a ≡ true → (a || b) ≡ true
 or-left true b e = refl

@@ -1,24 +1,24 @@
 -- The notebook's own books: tickets issued and accepted, and each ticket's one right to a success answer. No table here. Assumes nothing.
-use mathlib.Core.Path.{_≡_, refl, sym, ap₂, _∙_}
+use mathlib.Core.Path.{_≡_, refl, sym, ap, ap₂, _∙_}
 use mathlib.Core.Logic.{_⊎_, inl, inr, _≢_}
 use mathlib.Core.Bool.{Bool, true, false, _&&_}
 use mathlib.Core.List.{List, [], _∷_, map, List·Memᴰ, List·Memᴰ·cases-cons, List·Memᴰ·not-nil, List·Memᴰ·head, List·Memᴰ·tail, Memᴰ·map}
 use Prim.Native.Nat.{ℕ, _+_, _≤_}
 use native.Mathlib.Omega.{arith}
-use borrow.Author.Tests.{eqb-true}
+use borrow.Author.Tests.{ne-eqb, eqb-true, eqb-false}
 use lib.Dec.{eqb}
 use Rattle.protocol.specs.Bytes.{if, same}
 use Rattle.protocol.specs.Tickets.{aWaiting}
-use Rattle.protocol.proofs.Laws.{both, same-eq, same-refl}
+use Rattle.protocol.proofs.Laws.{both, and-false, same-eq, same-refl}
 use Rattle.account.specs.History.{Text}
-use Rattle.account.specs.Notebook.{Fate, held, accepted, burnt, ended, expired, spent, isTicket, cameTo}
-use Rattle.account.proofs.Ledger.{Line, isHeld, closeLine, raiseLine, isTicketLine, isWaitingLine, tally}
-use Rattle.account.proofs.Base.{Case, is, isnt, case, clash, untrue, when}
+use Rattle.account.specs.Notebook.{Fate, held, accepted, burnt, ended, expired, spent, fateNumber, cameTo, Line, isTicket, isTicketLine, isWaitingLine, closeLine, raiseLine, tally}
+use Rattle.account.specs.Truth.{Granting}
+use Rattle.account.proofs.Base.{Case, is, isnt, case, untrue, when, isHeld}
 use Rattle.account.proofs.Sim.{heft, total}
 
 -- a ticket's right to one success: held, or handed on to its waiting grant
-abbrev pub claim : Text → Line → ℕ
-claim k e = when (isTicket (e .kind) && same (e .name) k) 1 + when (eqb (e .kind) aWaiting && same (e .origin) k) 1
+abbrev pub claim : (ℕ → Granting) → Text → Line → ℕ
+claim called k e = when (isTicket (e .kind) && same (e .name) k) 1 + when (eqb (e .kind) aWaiting && same (called (e .ref) .ticket) k) 1
 
 -- each right, such as a claim, is held, owed just now (c) or used (wins), in all at most once; and there is none to a text that no line has
 pub record Owing (right : Text → Line → ℕ) (book : List Line) (wins c : Text → ℕ) : Type 0 where
@@ -95,6 +95,15 @@ pub re-wins : (right : Text → Line → ℕ) (book : List Line) (wins wins′ :
 re-wins right book wins wins′ same-wins o =
     record { most = λ k. omega (arith, same-wins k, o .most k); far = λ k h. let z = o .far k h in omega (arith, same-wins k) }
 
+-- and under another right that weighs the lines the same
+pub re-right : (right right′ : Text → Line → ℕ) (book : List Line) (wins : Text → ℕ) → ((k : Text) (e : Line) → List·Memᴰ e book → right′ k e ≡ right k e) → Owing right book wins nil → Owing right′ book wins nil
+re-right right right′ book wins even o =
+    record { most = λ k. omega (arith, weighs k book (even k), o .most k); far = λ k h. let z = o .far k h in omega (arith, weighs k book (even k)) }
+  where
+    weighs : (k : Text) (l : List Line) → ((e : Line) → List·Memᴰ e l → right′ k e ≡ right k e) → total (right′ k) l ≡ total (right k) l
+    weighs k [] h = refl
+    weighs k (e ∷ es) h = ap₂ _+_ (ap (when (isHeld (e .fate))) (h e (List·Memᴰ·head refl))) (weighs k es (λ x m. h x (List·Memᴰ·tail m)))
+
 -- What the edits do to a line's claim
 
 pub close-less : (right : Text → Line → ℕ) (F : Fate) (q : Line → Bool) → isHeld F ≡ false → (k : Text) (e : Line) → heft (right k) (closeLine F q e) ≤ heft (right k) e
@@ -104,25 +113,25 @@ close-less right F q hF k e = go (case (isHeld (e .fate) && q e))
     go (is z) = rw (z, hF) (omega arith)
     go (isnt z) = rw z (omega arith)
 
-pub close-pays : (F : Fate) (q : Line → Bool) → isHeld F ≡ false → (x : Line) → isHeld (x .fate) ≡ true → q x ≡ true → isTicket (x .kind) ≡ true → (k : Text)
-    → heft (claim k) (closeLine F q x) + just (x .name) k ≤ heft (claim k) x
-close-pays F q hF x h z t k = rw (h, z, hF, t) (omega arith)
+pub close-pays : (called : ℕ → Granting) (F : Fate) (q : Line → Bool) → isHeld F ≡ false → (x : Line) → isHeld (x .fate) ≡ true → q x ≡ true → isTicket (x .kind) ≡ true → (k : Text)
+    → heft (claim called k) (closeLine F q x) + just (x .name) k ≤ heft (claim called k) x
+close-pays called F q hF x h z t k = rw (h, z, hF, t) (omega arith)
 
-pub wait-pays : (F : Fate) (q : Line → Bool) → isHeld F ≡ false → (x : Line) → isHeld (x .fate) ≡ true → q x ≡ true → eqb (x .kind) aWaiting ≡ true → (k : Text)
-    → heft (claim k) (closeLine F q x) + just (x .origin) k ≤ heft (claim k) x
-wait-pays F q hF x h z t k = rw (h, z, hF, t) (omega arith)
+pub wait-pays : (called : ℕ → Granting) (F : Fate) (q : Line → Bool) → isHeld F ≡ false → (x : Line) → isHeld (x .fate) ≡ true → q x ≡ true → eqb (x .kind) aWaiting ≡ true → (k : Text)
+    → heft (claim called k) (closeLine F q x) + just (called (x .ref) .ticket) k ≤ heft (claim called k) x
+wait-pays called F q hF x h z t k = rw (h, z, hF, t) (omega arith)
 
-pub raise-less : (q : Line → Bool) (k : Text) (e : Line) → heft (claim k) (raiseLine q e) ≤ heft (claim k) e
-raise-less q k e = go (case (isHeld (e .fate) && q e)) (case (isHeld (e .fate)))
+pub raise-less : (called : ℕ → Granting) (q : Line → Bool) (k : Text) (e : Line) → heft (claim called k) (raiseLine q e) ≤ heft (claim called k) e
+raise-less called q k e = go (case (isHeld (e .fate) && q e)) (case (isHeld (e .fate)))
   where
-    go : Case (isHeld (e .fate) && q e) → Case (isHeld (e .fate)) → heft (claim k) (raiseLine q e) ≤ heft (claim k) e
+    go : Case (isHeld (e .fate) && q e) → Case (isHeld (e .fate)) → heft (claim called k) (raiseLine q e) ≤ heft (claim called k) e
     go (is z) (is h) = rw (z, h) (omega arith)
     go (is z) (isnt h) = rw (z, h) (omega arith)
     go (isnt z) c = rw z (omega arith)
 
-pub raise-pays : (q : Line → Bool) (x : Line) → isHeld (x .fate) ≡ true → q x ≡ true → eqb (x .kind) aWaiting ≡ true → (k : Text)
-    → heft (claim k) (raiseLine q x) + just (x .origin) k ≤ heft (claim k) x
-raise-pays q x h z w k = rw (h, z, w, h) (omega arith)
+pub raise-pays : (called : ℕ → Granting) (q : Line → Bool) (x : Line) → isHeld (x .fate) ≡ true → q x ≡ true → eqb (x .kind) aWaiting ≡ true → (k : Text)
+    → heft (claim called k) (raiseLine q x) + just (called (x .ref) .ticket) k ≤ heft (claim called k) x
+raise-pays called q x h z w k = rw (h, z, w, h) (omega arith)
 
 -- Counts, of the tickets whose text passes a test f
 
@@ -144,11 +153,7 @@ pub tally-none : (x : Text) (p : Fate → Bool) (l : List Line) → ((e : Line) 
 unfolding tally
 tally-none x p [] new = refl
 tally-none x p (e ∷ es) new =
-    rw (untrue (same (e .name) x) (λ z. new e (List·Memᴰ·head refl) (same-eq (e .name) x z)), and-no (isTicket (e .kind))) (omega (arith, tally-none x p es (λ a m. new a (List·Memᴰ·tail m))))
-  where
-    and-no : (b : Bool) → (b && false) ≡ false
-    and-no true = refl
-    and-no false = refl
+    rw (untrue (same (e .name) x) (λ z. new e (List·Memᴰ·head refl) (same-eq (e .name) x z)), and-false (isTicket (e .kind))) (omega (arith, tally-none x p es (λ a m. new a (List·Memᴰ·tail m))))
 
 abbrev pub anyFate : Fate → Bool
 anyFate f = true
@@ -163,20 +168,7 @@ closed-as f p F q even e = go (case (isHeld (e .fate) && q e))
 
 -- of a fate that it did not come to
 unlike-held : (G : Fate) → isHeld G ≡ false → (x : Fate) → isHeld x ≡ true → cameTo G x ≡ false
-unlike-held G n held z = go G n
-  where
-    go : (G : Fate) → isHeld G ≡ false → cameTo G held ≡ false
-    go held n = absurd (clash {b = true} refl n)
-    go accepted n = refl
-    go burnt n = refl
-    go ended n = refl
-    go expired n = refl
-    go spent n = refl
-unlike-held G n accepted z = absurd (clash z refl)
-unlike-held G n burnt z = absurd (clash z refl)
-unlike-held G n ended z = absurd (clash z refl)
-unlike-held G n expired z = absurd (clash z refl)
-unlike-held G n spent z = absurd (clash z refl)
+unlike-held G n x z = let k : fateNumber x ≡ 0 = eqb-true (fateNumber x) 0 z in rw k (ne-eqb 0 (fateNumber G) (λ e. eqb-false (fateNumber G) 0 n (sym e)))
 
 pub close-all : (f : Text → Bool) (F : Fate) (q : Line → Bool) (e : Line) → tick1 f anyFate (closeLine F q e) ≡ tick1 f anyFate e
 close-all f F q e = closed-as f anyFate F q (λ x z. refl) e
@@ -231,15 +223,15 @@ total-at f x (e ∷ es) m = go (List·Memᴰ·cases-cons m) (total-at f x es)
     go (inr m) ih = omega (arith, ih m)
 
 -- exactly one held ticket has the text of a held ticket, and it counts where that text does
-pub just-one : (book : List Line) (wins : Text → ℕ) → Owing claim book wins nil → (ticket : Text) (x : Line) → List·Memᴰ x book → isHeld (x .fate) ≡ true → isTicketLine ticket x ≡ true
+pub just-one : (called : ℕ → Granting) (book : List Line) (wins : Text → ℕ) → Owing (claim called) book wins nil → (ticket : Text) (x : Line) → List·Memᴰ x book → isHeld (x .fate) ≡ true → isTicketLine ticket x ≡ true
     → (f : Text → Bool) → total (λ e. when (isTicket (e .kind) && f (e .name) && isTicketLine ticket e) 1) book ≡ if (f ticket) 1 0
-just-one book wins o ticket x m h t f =
+just-one called book wins o ticket x m h t f =
     let k = both (isTicket (x .kind)) (same (x .name) ticket) t .0 in
     let n = both (isTicket (x .kind)) (same (x .name) ticket) t .1 in
-    let a = total-mono (λ e. when (isTicket (e .kind) && f (e .name) && isTicketLine ticket e) 1) (λ e. if (f ticket) (claim ticket e) 0) less book in
+    let a = total-mono (λ e. when (isTicket (e .kind) && f (e .name) && isTicketLine ticket e) 1) (λ e. if (f ticket) (claim called ticket e) 0) less book in
     let b = total-at (λ e. when (isTicket (e .kind) && f (e .name) && isTicketLine ticket e) 1) x book m in
     let c : heft (λ e. when (isTicket (e .kind) && f (e .name) && isTicketLine ticket e) 1) x ≡ if (f ticket) 1 0 = rw (h, k, same-eq (x .name) ticket n, same-refl ticket) (when-if (f ticket)) in
-    within (f ticket) _ (total (claim ticket) book) (omega (arith, either (f ticket) book)) (omega (arith, o .most ticket)) (omega arith)
+    within (f ticket) _ (total (claim called ticket) book) (omega (arith, either (f ticket) book)) (omega (arith, o .most ticket)) (omega arith)
   where
     within : (b : Bool) (n c : ℕ) → n ≤ if b c 0 → c ≤ 1 → if b 1 0 ≤ n → n ≡ if b 1 0
     within true n c x y z = omega arith
@@ -249,7 +241,7 @@ just-one book wins o ticket x m h t f =
     when-if true = refl
     when-if false = refl
 
-    either : (b : Bool) (l : List Line) → total (λ e. if b (claim ticket e) 0) l ≤ if b (total (claim ticket) l) 0
+    either : (b : Bool) (l : List Line) → total (λ e. if b (claim called ticket e) 0) l ≤ if b (total (claim called ticket) l) 0
     either b [] = none b
       where
         none : (b : Bool) → 0 ≤ if b 0 0
@@ -262,7 +254,7 @@ just-one book wins o ticket x m h t f =
         zero true = refl
         zero false = refl
 
-    less : (e : Line) → heft (λ e. when (isTicket (e .kind) && f (e .name) && isTicketLine ticket e) 1) e ≤ heft (λ e. if (f ticket) (claim ticket e) 0) e
+    less : (e : Line) → heft (λ e. when (isTicket (e .kind) && f (e .name) && isTicketLine ticket e) 1) e ≤ heft (λ e. if (f ticket) (claim called ticket e) 0) e
     less e = go (case (isTicketLine ticket e))
       where
         le : (b : Bool) (h : Bool) (n : ℕ) → when h (when (b && true) 1) ≤ when h (if b (1 + n) 0)
@@ -275,7 +267,7 @@ just-one book wins o ticket x m h t f =
         none false true n = omega arith
         none b false n = omega arith
 
-        go : Case (isTicketLine ticket e) → heft (λ e. when (isTicket (e .kind) && f (e .name) && isTicketLine ticket e) 1) e ≤ heft (λ e. if (f ticket) (claim ticket e) 0) e
+        go : Case (isTicketLine ticket e) → heft (λ e. when (isTicket (e .kind) && f (e .name) && isTicketLine ticket e) 1) e ≤ heft (λ e. if (f ticket) (claim called ticket e) 0) e
         go (is z) =
             let w = both (isTicket (e .kind)) (same (e .name) ticket) z in
             rw (w .0, same-eq (e .name) ticket (w .1), same-refl ticket) (le (f ticket) (isHeld (e .fate)) _)

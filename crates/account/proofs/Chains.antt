@@ -10,13 +10,13 @@ use Rattle.protocol.specs.Records.{Rec}
 use Rattle.protocol.specs.Table.{recAt}
 use Rattle.protocol.specs.Steps.{chainFrom, chainOf, proxyParent}
 use Rattle.account.specs.History.{Text}
-use Rattle.account.specs.Notebook.{isTicket}
-use Rattle.account.proofs.Ledger.{Notebook}
+use Rattle.account.specs.Notebook.{isTicket, Notebook}
+use Rattle.account.specs.Truth.{Known}
 use Rattle.account.proofs.Base.{Case, is, isnt, case}
 use Rattle.account.proofs.Sim.{Slot, on, lives, Above, Up, upOf, deep, Under, Sim}
 use Rattle.account.proofs.Edits.{alive-is, under-of}
 
-module _ (L : Notebook) (A : List Slot) (n : ℕ) (S : Sim L A n) (slots : List Rec) (rec : (k : ℕ) → recAt k slots ≡ on A k .r) where
+module _ {K : Known} (L : Notebook) (A : List Slot) (n : ℕ) (S : Sim K L A n) (slots : List Rec) (rec : (k : ℕ) → recAt k slots ≡ on A k .r) where
   -- a parent grant lives
   above-lives : (p s : ℕ) (chain : List Text) → Above A p s chain → L .clock < on A s .r .expiry → lives (L .clock) A p ≡ true
   above-lives p s chain h v = alive-is (L .clock) (on A p .r) (omega (arith, h .grants), omega (arith, h .grants)) (omega (arith, h .even))
@@ -39,7 +39,7 @@ module _ (L : Notebook) (A : List Slot) (n : ℕ) (S : Sim L A n) (slots : List 
       let e′ : deep A (on A (suc k) .r .parent) ≡ d = omega arith in
       rw (rec (suc k))
       (ap (λ (c : List Text). on A (suc k) .r .text ∷ c)
-      (walk d (on A (suc k) .r .parent) (on A (suc k) .r .session) (on A (suc k) .e .chain) (rw (h .its-session) v) e′ (rw x at (u .line)))
+      (walk d (on A (suc k) .r .parent) (on A (suc k) .r .session) (on A (suc k) .o .chain) (rw (h .its-session) v) e′ (rw x at (u .line)))
       ∙ sym (h .linked))
 
   deep-is : (p : ℕ) → recAt p slots .depth ≡ deep A p
@@ -55,11 +55,11 @@ module _ (L : Notebook) (A : List Slot) (n : ℕ) (S : Sim L A n) (slots : List 
     pub user-ok : recAt (a .r .session) slots .text ≡ a .e .user
     user-ok = ap (λ (r : Rec). r .text) (rec (a .r .session)) ∙ sym (u .user-eq)
 
-    pub since-ok : recAt (a .r .session) slots .since ≡ a .e .since
+    pub since-ok : recAt (a .r .session) slots .since ≡ a .o .since
     since-ok = ap (λ (r : Rec). r .since) (rec (a .r .session)) ∙ sym (u .since-eq)
 
-    pub chain-ok : (p : ℕ) → p ≡ upOf (a .r) → chainOf p slots ≡ a .e .chain
-    chain-ok p e = rw e (chain-is (upOf (a .r)) (a .r .session) (a .e .chain) (omega (arith, u .within)) (u .line))
+    pub chain-ok : (p : ℕ) → p ≡ upOf (a .r) → chainOf p slots ≡ a .o .chain
+    chain-ok p e = rw e (chain-is (upOf (a .r)) (a .r .session) (a .o .chain) (omega (arith, u .within)) (u .line))
 
     pub depth-ok : (p : ℕ) → p ≡ upOf (a .r) → recAt p slots .depth + 1 ≡ suc (deep A (upOf (a .r)))
     depth-ok p e = rw e (omega (arith, deep-is (upOf (a .r))))

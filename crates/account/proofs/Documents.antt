@@ -12,7 +12,6 @@ use Rattle.protocol.proofs.Laws.{both, fork}
 use Rattle.protocol.proofs.Dates.{date-plain}
 use Rattle.account.specs.History.{Text}
 use Rattle.account.specs.Account.{unescaped, textsIn, Tells}
-use Rattle.account.proofs.Base.{is}
 use Rattle.account.proofs.Texts.{append-assoc}
 
 -- Escaped texts

@@ -16,10 +16,10 @@ use Rattle.protocol.specs.Tickets.{aLogin, aSession}
 use Rattle.protocol.specs.Records.{Rec, nameOf}
 use Rattle.protocol.proofs.Laws.{both, fork}
 use Rattle.account.specs.History.{Text}
-use Rattle.account.specs.Reading.{Credentials, SignedOn}
-use Rattle.account.specs.Notebook.{Fate, ended, expired, spent, isTicket}
-use Rattle.account.proofs.Ledger.{Line, Notebook, isHeld, close, closeLine, closeAll, raise, raiseLine, enter, isLine, ofSession, Look, found, nothing, isFound, look, endOther, note}
-use Rattle.account.proofs.Base.{Case, is, isnt, case, clash, sum-set}
+use Rattle.account.specs.Reading.{Credentials}
+use Rattle.account.specs.Notebook.{signOn, Fate, ended, expired, spent, isTicket, Line, Notebook, closeLine, closeAll, raiseLine, enter, isLine, ofSession, Look, found, nothing, isFound, look, endOther}
+use Rattle.account.specs.Truth.{Known}
+use Rattle.account.proofs.Base.{Case, is, isnt, case, clash, if-keeps, sum-set, isHeld, close, raise}
 use Rattle.account.proofs.Sim.{Slot, noSlot, on, alive, lives, weight, weigh, heft, total, Up, upOf, Under, Placed, login, session, below, Good, Before, Sim, good-move, Turn, stays, goes, never, through, sim-through}
 
 -- what lives is of a kind that has lines, and not expired, and the other way
@@ -62,7 +62,7 @@ up-lives c A (suc p) s chain k h l e =
     rw e′ at (alive-is c (on A (suc p) .r) (omega (arith, h .grants), omega (arith, h .grants)) (omega (arith, h .even)))
 
 pub parent-lives : (c : ℕ) (A : List Slot) (a : Slot) (k : ℕ) → Under A a → c < a .r .expiry → upOf (a .r) ≡ suc k → lives c A (suc k) ≡ true
-parent-lives c A a k u t e = up-lives c A (upOf (a .r)) (a .r .session) (a .e .chain) k (u .line) (omega (arith, u .within)) e
+parent-lives c A a k u t e = up-lives c A (upOf (a .r)) (a .r .session) (a .o .chain) k (u .line) (omega (arith, u .within)) e
 
 -- and is a grant of the same session
 pub up-grants : (A : List Slot) (p s : ℕ) (chain : List Text) (k : ℕ) → Up A p s chain → p ≡ suc k → (on A (suc k) .r .kind ≡ 6) × (on A (suc k) .r .session ≡ s)
@@ -71,38 +71,35 @@ up-grants A (suc p) s chain k h e =
     let e′ : p ≡ k = omega arith in
     (rw e′ at (h .grants), rw e′ at (h .its-session))
 
--- closing changes no name and no number
+-- closing changes no name and no number, nor does raising
 pub close-name : (F : Fate) (q : Line → Bool) (e : Line) → closeLine F q e .name ≡ e .name
-close-name F q e = go (isHeld (e .fate) && q e)
-  where
-    go : (b : Bool) → if b (close F e) e .name ≡ e .name
-    go true = refl
-    go false = refl
+close-name F q e = if-keeps (λ (x : Line). x .name) (isHeld (e .fate) && q e) (close F e) e refl
 
 pub close-ref : (F : Fate) (q : Line → Bool) (e : Line) → closeLine F q e .ref ≡ e .ref
-close-ref F q e = go (isHeld (e .fate) && q e)
-  where
-    go : (b : Bool) → if b (close F e) e .ref ≡ e .ref
-    go true = refl
-    go false = refl
+close-ref F q e = if-keeps (λ (x : Line). x .ref) (isHeld (e .fate) && q e) (close F e) e refl
 
--- nor does raising
 pub raise-name : (q : Line → Bool) (e : Line) → raiseLine q e .name ≡ e .name
-raise-name q e = go (isHeld (e .fate) && q e)
-  where
-    go : (b : Bool) → if b (raise e) e .name ≡ e .name
-    go true = refl
-    go false = refl
+raise-name q e = if-keeps (λ (x : Line). x .name) (isHeld (e .fate) && q e) (raise e) e refl
 
 pub raise-ref : (q : Line → Bool) (e : Line) → raiseLine q e .ref ≡ e .ref
-raise-ref q e = go (isHeld (e .fate) && q e)
-  where
-    go : (b : Bool) → if b (raise e) e .ref ≡ e .ref
-    go true = refl
-    go false = refl
+raise-ref q e = if-keeps (λ (x : Line). x .ref) (isHeld (e .fate) && q e) (raise e) e refl
+
+-- a live slot's text
+pub before : {K : Known} {A : List Slot} {n : ℕ} {a : Slot} (c : ℕ) → Good K A n a → alive c (a .r) ≡ true → Before n (a .e .name)
+unfolding nameOf
+before {a = a} c g l =
+    record {
+      kind = a .r .kind;
+      serial = a .r .serial;
+      secret = a .r .secret;
+      some = alive-kind c (a .r) l .0;
+      known = alive-kind c (a .r) l .1;
+      is-name = g .name-eq;
+      below = g .young;
+    }
 
 -- Records leave their slots: those that p picks, whose lines q picks; what stays has its session and parent still
-module _ (L : Notebook) (A B : List Slot) (n : ℕ) (S : Sim L A n) (p : ℕ → Bool) (q : Line → Bool) (F : Fate) (hF : isHeld F ≡ false) (len : length B ≡ length A)
+module _ {K : Known} (L : Notebook) (A B : List Slot) (n : ℕ) (S : Sim K L A n) (p : ℕ → Bool) (q : Line → Bool) (F : Fate) (hF : isHeld F ≡ false) (len : length B ≡ length A)
     (keep : (i : ℕ) → p i ≡ false → on B i ≡ on A i) (gone : (i : ℕ) → p i ≡ true → lives (L .clock) B i ≡ false)
     (agree : (i : ℕ) → lives (L .clock) A i ≡ true → q (on A i .e) ≡ p i)
     (homes : (i : ℕ) → lives (L .clock) A i ≡ true → Under A (on A i) → p i ≡ false → p (on A i .r .session) ≡ false)
@@ -117,10 +114,10 @@ module _ (L : Notebook) (A B : List Slot) (n : ℕ) (S : Sim L A n) (p : ℕ →
       go (isnt l) (is z) = never l (gone i z)
       go (isnt l) (isnt z) = never l (rw (keep i z) l)
 
-  drop-good : (i : ℕ) → lives (L .clock) B i ≡ true → Good B n (on B i)
+  drop-good : (i : ℕ) → lives (L .clock) B i ≡ true → Good K B n (on B i)
   drop-good i b = go (case (p i))
     where
-      go : Case (p i) → Good B n (on B i)
+      go : Case (p i) → Good K B n (on B i)
       go (is z) = absurd (clash b (gone i z))
       go (isnt z) =
           let l : lives (L .clock) A i ≡ true = rw (keep i z) at b in
@@ -131,13 +128,13 @@ module _ (L : Notebook) (A B : List Slot) (n : ℕ) (S : Sim L A n) (p : ℕ →
           (λ h k e. keep (suc k) (parents i k l (under-of A (on A i) (g .placed) h) e z))
           g)
 
-  pub sim-drop : Sim (closeAll F q L) B n
+  pub sim-drop : Sim K (closeAll F q L) B n
   unfolding closeAll
   sim-drop = sim-through L (L .clock) A B n S (closeLine F q) (λ e z. rw (z, z)) (close-name F q) (close-ref F q) len drop-turn drop-good
 
 -- A record is put into a slot where none lives
-module _ (L : Notebook) (A : List Slot) (n : ℕ) (S : Sim L A n) (i : ℕ) (lt : i < length A) (z : lives (L .clock) A i ≡ false)
-    (a : Slot) (la : alive (L .clock) (a .r) ≡ true) (sa : a .r .serial ≡ n) (ra : a .e .ref ≤ n) (next : n < 4294967296) (ga : Good A (suc n) a) where
+module _ {K : Known} (L : Notebook) (A : List Slot) (n : ℕ) (S : Sim K L A n) (i : ℕ) (lt : i < length A) (z : lives (L .clock) A i ≡ false)
+    (a : Slot) (la : alive (L .clock) (a .r) ≡ true) (sa : a .r .serial ≡ n) (ra : a .e .ref ≤ n) (next : n < 4294967296) (ga : Good K A (suc n) a) where
   P : List Slot
   P = set A i a
 
@@ -169,7 +166,7 @@ module _ (L : Notebook) (A : List Slot) (n : ℕ) (S : Sim L A n) (i : ℕ) (lt 
       go (inl q) = (i, rw here la, rw here (sym q))
       go (inr m) = let w = S .known e m h in (w .0, rw (there (w .0) (apart (w .0) (w .1))) (w .1), rw (there (w .0) (apart (w .0) (w .1))) (w .2))
 
-  put-move : (m : ℕ) (b : Slot) → m ≤ suc n → L .clock < b .r .expiry → Good A m b → Good P (suc n) b
+  put-move : (m : ℕ) (b : Slot) → m ≤ suc n → L .clock < b .r .expiry → Good K A m b → Good K P (suc n) b
   put-move m b le t g =
       good-move A P m (suc n) b le
       (λ h. there _ (apart _ (home-lives (L .clock) A b (under-of A b (g .placed) h) t)))
@@ -179,10 +176,10 @@ module _ (L : Notebook) (A : List Slot) (n : ℕ) (S : Sim L A n) (i : ℕ) (lt 
   put-back : (j : ℕ) → j ≢ i → lives (L .clock) P j ≡ true → lives (L .clock) A j ≡ true
   put-back j ne l = rw (there j ne) at l
 
-  put-good : (j : ℕ) → lives (L .clock) P j ≡ true → Good P (suc n) (on P j)
+  put-good : (j : ℕ) → lives (L .clock) P j ≡ true → Good K P (suc n) (on P j)
   put-good j l = go (ℕ-discrete j i)
     where
-      go : Dec (j ≡ i) → Good P (suc n) (on P j)
+      go : Dec (j ≡ i) → Good K P (suc n) (on P j)
       go (yes e) = rw (e, here) (put-move (suc n) a (omega arith) (alive-time (L .clock) (a .r) la) ga)
       go (no ne) = rw (there j ne) (put-move n (on A j) (omega arith) (alive-time (L .clock) (on A j .r) (put-back j ne l)) (S .good j (put-back j ne l)))
 
@@ -206,16 +203,7 @@ module _ (L : Notebook) (A : List Slot) (n : ℕ) (S : Sim L A n) (i : ℕ) (lt 
   put-old e m = go (List·Memᴰ·cases-cons m)
     where
       go : (e ≡ a .e) ⊎ List·Memᴰ e (L .book) → Before (suc n) (e .name)
-      go (inl q) =
-          record {
-            kind = a .r .kind;
-            serial = a .r .serial;
-            secret = a .r .secret;
-            some = alive-kind (L .clock) (a .r) la .0;
-            known = alive-kind (L .clock) (a .r) la .1;
-            is-name = ap (λ (x : Line). x .name) q ∙ ga .name-eq;
-            below = ga .young;
-          }
+      go (inl q) = let b = before (L .clock) ga la in record { kind = b .kind; serial = b .serial; secret = b .secret; some = b .some; known = b .known; is-name = ap (λ (x : Line). x .name) q ∙ b .is-name; below = b .below }
       go (inr m) =
           let b = S .old e m in
           record { kind = b .kind; serial = b .serial; secret = b .secret; some = b .some; known = b .known; is-name = b .is-name; below = omega (arith, b .below) }
@@ -227,16 +215,16 @@ module _ (L : Notebook) (A : List Slot) (n : ℕ) (S : Sim L A n) (i : ℕ) (lt 
       go (inl q) = rw q (omega arith)
       go (inr m) = omega (arith, S .refs e m)
 
-  pub sim-put : Sim (enter (a .e) L) (set A i a) (suc n)
+  pub sim-put : Sim K (enter (a .e) L) (set A i a) (suc n)
   unfolding P enter
   sim-put = record { sums = put-sums; known = put-known; good = put-good; one = put-one; old = put-old; refs = put-refs; top = omega arith }
 
 -- A waiting grant, which nothing names, changes in place
-module _ (L : Notebook) (A : List Slot) (n : ℕ) (S : Sim L A n) (i : ℕ) (lt : i < length A) (li : lives (L .clock) A i ≡ true) (z : on A i .r .kind ≡ 5)
+module _ {K : Known} (L : Notebook) (A : List Slot) (n : ℕ) (S : Sim K L A n) (i : ℕ) (lt : i < length A) (li : lives (L .clock) A i ≡ true) (z : on A i .r .kind ≡ 5)
     (a : Slot) (la : alive (L .clock) (a .r) ≡ true) (sa : a .r .serial ≡ on A i .r .serial)
     (g : Line → Line) (closed : (e : Line) → isHeld (e .fate) ≡ false → isHeld (g e .fate) ≡ false)
     (new : g (on A i .e) ≡ a .e) (others : (j : ℕ) → lives (L .clock) A j ≡ true → j ≢ i → g (on A j .e) ≡ on A j .e)
-    (names : (e : Line) → g e .name ≡ e .name) (numbers : (e : Line) → g e .ref ≡ e .ref) (ga : Good A n a) where
+    (names : (e : Line) → g e .name ≡ e .name) (numbers : (e : Line) → g e .ref ≡ e .ref) (ga : Good K A n a) where
   C : List Slot
   C = set A i a
 
@@ -256,26 +244,26 @@ module _ (L : Notebook) (A : List Slot) (n : ℕ) (S : Sim L A n) (i : ℕ) (lt 
       go (no ne) (is l) = stays l (rw (that j ne) l) (rw (others j l ne) (S .good j l .fate-eq)) (rw (that j ne, others j l ne)) (rw (that j ne))
       go (no ne) (isnt l) = never l (rw (that j ne) l)
 
-  change-move : (b : Slot) → Good A n b → Good C n b
+  change-move : (b : Slot) → Good K A n b → Good K C n b
   change-move b g =
       good-move A C n n b (omega arith)
       (λ h. that _ (λ (e : b .r .session ≡ i). let w : on A i .r .kind ≡ 2 = rw e at (under-of A b (g .placed) h .home) in omega arith))
       (λ h k e. that (suc k) (λ (x : suc k ≡ i). let w : on A i .r .kind ≡ 6 = rw x at (up-grants A _ _ _ k (under-of A b (g .placed) h .line) e .0) in omega arith))
       g
 
-  change-good : (j : ℕ) → lives (L .clock) C j ≡ true → Good C n (on C j)
+  change-good : (j : ℕ) → lives (L .clock) C j ≡ true → Good K C n (on C j)
   change-good j l = go (ℕ-discrete j i)
     where
-      go : Dec (j ≡ i) → Good C n (on C j)
+      go : Dec (j ≡ i) → Good K C n (on C j)
       go (yes e) = rw (e, this) (change-move a ga)
       go (no ne) = rw (that j ne) (change-move (on A j) (S .good j (rw (that j ne) at l)))
 
-  pub sim-change : Sim (through (L .clock) g L) (set A i a) n
+  pub sim-change : Sim K (through (L .clock) g L) (set A i a) n
   unfolding C
   sim-change = sim-through L (L .clock) A C n S g closed names numbers (length-set A i a) change-turn change-good
 
 -- The clock moves: nothing in the slots changes, and what has expired is dead
-module _ (L : Notebook) (A : List Slot) (n : ℕ) (S : Sim L A n) (d : ℕ) (le : L .clock ≤ d) where
+module _ {K : Known} (L : Notebook) (A : List Slot) (n : ℕ) (S : Sim K L A n) (d : ℕ) (le : L .clock ≤ d) where
   lived : (i : ℕ) → lives d A i ≡ true → lives (L .clock) A i ≡ true
   lived i l = alive-is (L .clock) (on A i .r) (alive-kind d (on A i .r) l) (omega (arith, alive-time d (on A i .r) l))
 
@@ -298,7 +286,7 @@ module _ (L : Notebook) (A : List Slot) (n : ℕ) (S : Sim L A n) (d : ℕ) (le 
       go (isnt l) (is m) = absurd (clash (lived i m) l)
       go (isnt l) (isnt m) = never l m
 
-  pub sim-time : Sim (through d (closeLine expired (λ (e : Line). leb (e .expiry) d)) L) A n
+  pub sim-time : Sim K (through d (closeLine expired (λ (e : Line). leb (e .expiry) d)) L) A n
   sim-time =
       sim-through L d A A n S (closeLine expired (λ (e : Line). leb (e .expiry) d)) (λ e z. rw (z, z)) (close-name expired _) (close-ref expired _) refl time-turn
       (λ i l. S .good i (lived i l))
@@ -310,8 +298,7 @@ change-keeps P true nothing cookie user b k e = k
 change-keeps P false l cookie user b k e = k
 
 pub signed-keeps : (P : Notebook → Type 0) (cookie : Text) (c : Credentials) (b : Notebook)
-    → P (closeAll spent (isLine aLogin (c .lt)) b) → P (closeAll ended (ofSession cookie) (closeAll spent (isLine aLogin (c .lt)) b)) → P (note (SignedOn cookie c) b)
-unfolding note
+    → P (closeAll spent (isLine aLogin (c .lt)) b) → P (closeAll ended (ofSession cookie) (closeAll spent (isLine aLogin (c .lt)) b)) → P (signOn cookie c b)
 signed-keeps P cookie c b k e =
     let s : Notebook = closeAll spent (isLine aLogin (c .lt)) b in
     change-keeps P (c .given && isFound (look (isLine aLogin (c .lt)) (b .book))) (look (isLine aSession cookie) (s .book)) cookie (c .user) s k e

@@ -1,6 +1,7 @@
 -- The proof of demand 3.
 pub mod Base
-pub mod Ledger
+pub mod Texts
+pub mod Documents
 pub mod Sim
 pub mod Edits
 pub mod Look
@@ -8,21 +9,17 @@ pub mod Tables
 pub mod Sessions
 pub mod Making
 pub mod Chains
+pub mod Books
+pub mod Balance
 pub mod Reached
-pub mod Logins
-pub mod Items
+pub mod Parts
 pub mod Rules
-pub mod Texts
 pub mod Paths
 pub mod Counts
 pub mod LoginGet
-pub mod Validators
 pub mod LoginPost
+pub mod Validators
 pub mod Others
 pub mod Run
-pub mod Traced
-pub mod Books
-pub mod Documents
-pub mod Clerk
 pub mod Demand
 pub mod Waiting

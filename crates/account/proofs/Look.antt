@@ -5,7 +5,7 @@ use mathlib.Core.Bool.{Bool, true, false, _&&_, _||_}
 use mathlib.Core.List.{List, [], _∷_, map, List·Memᴰ, List·Memᴰ·head, List·Memᴰ·tail}
 use Prim.Native.Nat.{ℕ, zero, suc, _+_, _%_, _≤_, _<_}
 use native.Mathlib.Omega.{arith}
-use borrow.Author.Tests.{eqb-true, lt-ltb}
+use borrow.Author.Tests.{eqb-true, eqb-false, lt-ltb}
 use lib.ListN.{length, getD, List·getD-map, length-map}
 use lib.Dec.{ltb, eqb}
 use Rattle.protocol.specs.Bytes.{same, within}
@@ -15,24 +15,28 @@ use Rattle.protocol.specs.Table.{Table, recAt, slotFrom, slotWhere}
 use Rattle.protocol.specs.Steps.{isNamed, slotNamed, ticketSlot, waitingSlot}
 use Rattle.protocol.proofs.Laws.{both, same-eq}
 use Rattle.protocol.proofs.Added.{slot-chosen}
+use Rattle.protocol.proofs.Searches.{nonzero}
 use Rattle.account.specs.History.{Text}
-use Rattle.account.specs.Notebook.{isTicket}
-use Rattle.account.proofs.Ledger.{Line, Notebook, isHeld, found, nothing, look, isLine, isTicketLine, isWaitingLine}
-use Rattle.account.proofs.Base.{Case, is, isnt, case, clash, untrue, and-yes, or-left, or-right, when, name-serial}
-use Rattle.account.proofs.Sim.{Slot, noSlot, on, alive, lives, weight, weigh, heft, total, Sim}
+use Rattle.account.specs.Notebook.{isTicket, Line, Notebook, found, nothing, look, isLine, isTicketLine, isWaitingLine}
+use Rattle.account.specs.Truth.{Known}
+use Rattle.account.proofs.Base.{Case, is, isnt, case, clash, untrue, and-yes, or-left, or-right, when, name-serial, isHeld}
+use Rattle.account.proofs.Sim.{Slot, noSlot, on, alive, lives, weight, weigh, heft, total, Told, Sim, sim-aged}
 use Rattle.account.proofs.Edits.{alive-kind, alive-time}
 
 abbrev pub recOf : Slot → Rec
 recOf a = a .r
 
 -- the table beside the notebook
-pub record Tied (L : Notebook) (t : Table) : Type 0 where
+pub record Tied (K : Known) (L : Notebook) (t : Table) : Type 0 where
   pub A : List Slot
   pub n : ℕ
   pub slots-are : freeRec ∷ t .slots ≡ map recOf A
   pub clock-is : t .clock ≡ L .clock
   pub next-is : t .next ≡ n % 4294967296
-  pub sim : Sim L A n
+  pub sim : Sim K L A n
+
+abbrev pub tied-aged : {K K′ : Known} {L : Notebook} {t : Table} (w : Tied K L t) → ((i : ℕ) → lives (L .clock) (w .A) i ≡ true → Told K (on (w .A) i) → Told K′ (on (w .A) i)) → Tied K′ L t
+tied-aged w more = record { A = w .A; n = w .n; slots-are = w .slots-are; clock-is = w .clock-is; next-is = w .next-is; sim = sim-aged (w .sim) more }
 
 -- a live slot is one of the slots
 pub live-inside : (c : ℕ) (A : List Slot) (k : ℕ) → lives c A k ≡ true → k < length A
@@ -72,7 +76,7 @@ seen q l x e = go (looked q l)
     go (none a b) = absurd (let z : _≡_ {A = ℕ} 0 1 = cc in omega arith)
     go (some y a m h t) = let z : y ≡ x = cc in (rw z at m, rw z at h, rw z at t)
 
-module _ (L : Notebook) (A : List Slot) (n : ℕ) (S : Sim L A n) (q : Line → Bool) where
+module _ {K : Known} (L : Notebook) (A : List Slot) (n : ℕ) (S : Sim K L A n) (q : Line → Bool) where
   -- a live slot whose line the test picks, and no other's: the notebook finds that line
   pub look-ok : (i : ℕ) → lives (L .clock) A i ≡ true → q (on A i .e) ≡ true
       → ((j : ℕ) → lives (L .clock) A j ≡ true → q (on A j .e) ≡ true → on A j .r .serial ≡ on A i .r .serial) → look q (L .book) ≡ found (on A i .e)
@@ -109,7 +113,7 @@ none-passes test (r ∷ rs) k h e i l = go (case (test r)) (none-passes test rs 
     go (isnt z) ih zero l = z
     go (isnt z) ih (suc i) l = ih (rw z at e) i (omega arith)
 
-module _ (L : Notebook) (t : Table) (w : Tied L t) where
+module _ {K : Known} (L : Notebook) (t : Table) (w : Tied K L t) where
   -- the record in a slot
   pub rec-on : (k : ℕ) → recAt k (t .slots) ≡ on (w .A) k .r
   rec-on k = ap (λ (l : List Rec). getD l k freeRec) (w .slots-are) ∙ List·getD-map recOf (w .A) k noSlot
@@ -120,6 +124,10 @@ module _ (L : Notebook) (t : Table) (w : Tied L t) where
   -- slot 0 holds none
   pub zero-dead : lives (L .clock) (w .A) 0 ≡ false
   zero-dead = let z : on (w .A) 0 .r ≡ freeRec = sym (rec-on 0) in rw z
+
+  pub live-some : (k : ℕ) → lives (L .clock) (w .A) k ≡ true → 1 ≤ k
+  live-some zero l = absurd (clash l zero-dead)
+  live-some (suc k) l = omega arith
 
 -- a search of the table beside one of the notebook
 pub record Hit (L : Notebook) (A : List Slot) (k : ℕ) (test : Rec → Bool) (q : Line → Bool) : Type 0 where
@@ -133,7 +141,7 @@ pub record Miss (L : Notebook) (A : List Slot) (q : Line → Bool) : Type 0 wher
   pub line : look q (L .book) ≡ nothing
   pub all : (i : ℕ) → lives (L .clock) A i ≡ true → q (on A i .e) ≡ false
 
-module _ (L : Notebook) (t : Table) (w : Tied L t) (test : Rec → Bool) (q : Line → Bool)
+module _ {K : Known} (L : Notebook) (t : Table) (w : Tied K L t) (test : Rec → Bool) (q : Line → Bool)
     (agree : (i : ℕ) → lives (L .clock) (w .A) i ≡ true → q (on (w .A) i .e) ≡ test (on (w .A) i .r))
     (sub : (r : Rec) → test r ≡ true → alive (L .clock) r ≡ true)
     (only : (i j : ℕ) → lives (L .clock) (w .A) i ≡ true → lives (L .clock) (w .A) j ≡ true → q (on (w .A) i .e) ≡ true → q (on (w .A) j .e) ≡ true
@@ -152,12 +160,8 @@ module _ (L : Notebook) (t : Table) (w : Tied L t) (test : Rec → Bool) (q : Li
 
   pub hit : eqb (slotWhere test (t .slots)) 0 ≡ false → Hit L (w .A) (slotWhere test (t .slots)) test q
   hit e =
-      let c = slot-chosen test (t .slots) (pos (slotWhere test (t .slots)) e) in
+      let c = slot-chosen test (t .slots) (nonzero _ (eqb-false (slotWhere test (t .slots)) 0 e)) in
       hit-at (slotWhere test (t .slots)) (rw (rec-on L t w (slotWhere test (t .slots))) at (c .passes))
-    where
-      pos : (k : ℕ) → eqb k 0 ≡ false → 1 ≤ k
-      pos zero z = absurd (clash refl z)
-      pos (suc k) z = omega arith
 
   pub miss : eqb (slotWhere test (t .slots)) 0 ≡ true → Miss L (w .A) q
   miss e = record { line = look-no L (w .A) (w .n) (w .sim) q none; all = none }
@@ -175,7 +179,7 @@ module _ (L : Notebook) (t : Table) (w : Tied L t) (test : Rec → Bool) (q : Li
       none i l = agree i l ∙ at i l
 
 -- two live lines of one text have one serial
-pub same-name : (L : Notebook) (A : List Slot) (n : ℕ) → Sim L A n → (i j : ℕ) → lives (L .clock) A i ≡ true → lives (L .clock) A j ≡ true → on A i .e .name ≡ on A j .e .name
+pub same-name : {K : Known} (L : Notebook) (A : List Slot) (n : ℕ) → Sim K L A n → (i j : ℕ) → lives (L .clock) A i ≡ true → lives (L .clock) A j ≡ true → on A i .e .name ≡ on A j .e .name
     → on A i .r .serial ≡ on A j .r .serial
 unfolding nameOf
 same-name L A n S i j li lj e =
@@ -198,7 +202,7 @@ isTicketNamed clock text r = isNamed clock aService text r || isNamed clock aPro
 abbrev pub isWaitingOf : ℕ → ℕ → Rec → Bool
 isWaitingOf clock serial r = eqb (r .kind) aWaiting && live clock r && eqb (r .serial) serial
 
-module _ (L : Notebook) (t : Table) (w : Tied L t) where
+module _ {K : Known} (L : Notebook) (t : Table) (w : Tied K L t) where
   fresh : (i : ℕ) → lives (L .clock) (w .A) i ≡ true → ltb (L .clock) (on (w .A) i .r .expiry) ≡ true
   fresh i l = lt-ltb (L .clock) (on (w .A) i .r .expiry) (alive-time (L .clock) (on (w .A) i .r) l)
 

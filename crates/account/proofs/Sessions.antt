@@ -1,13 +1,13 @@
 -- A session ends with all that stands under it, and a waiting grant becomes a grant: the table stays tied to the notebook. Assumes nothing.
-use mathlib.Core.Path.{_≡_, refl, sym, ap, _∙_}
+use mathlib.Core.Path.{_≡_, refl, sym, _∙_}
 use mathlib.Core.Logic.{_≢_}
 use mathlib.Core.Bool.{Bool, true, false, not, _&&_, _||_}
-use mathlib.Core.List.{List, [], _∷_, map}
-use Prim.Native.Nat.{ℕ, zero, suc, _≤_, _<_}
+use mathlib.Core.List.{List, map}
+use Prim.Native.Nat.{ℕ, suc, _≤_, _<_}
 use native.Mathlib.Omega.{arith}
 use native.Mathlib.Decide.{ℕ-discrete}
 use borrow.Author.Tests.{eq-eqb, ne-eqb, eqb-true, eqb-false}
-use lib.ListN.{length, getD, set, List·getD-map, length-map, length-set}
+use lib.ListN.{length, set, length-map, length-set}
 use lib.Seq.{getD-set-same, getD-set-other}
 use lib.Dec.{eqb}
 use Rattle.protocol.specs.Bytes.{same, zeros}
@@ -17,30 +17,16 @@ use Rattle.protocol.specs.Table.{Table, recAt}
 use Rattle.protocol.specs.Steps.{put, endRec, endSession, sessionOf, turned, waitingSlot}
 use Rattle.protocol.proofs.Laws.{same-eq, same-refl, one-test, or-both}
 use Rattle.account.specs.History.{Text}
-use Rattle.account.specs.Notebook.{ended}
-use Rattle.account.proofs.Ledger.{Notebook, closeAll, raise, raiseLine, raiseAll, nothing, look, isLine, isWaitingLine, ofSession}
-use Rattle.account.proofs.Base.{if-same, clash}
-use Rattle.account.proofs.Sim.{Slot, noLine, noSlot, on, alive, lives, upOf, Under, Placed, login, session, below, Good}
+use Rattle.account.specs.Notebook.{ended, Notebook, closeAll, raiseLine, raiseAll, nothing, look, isLine, isWaitingLine, ofSession}
+use Rattle.account.specs.Truth.{Known}
+use Rattle.account.proofs.Base.{if-same, clash, or-no, raise}
+use Rattle.account.proofs.Sim.{Slot, noSlot, on, alive, lives, upOf, Under, Placed, login, session, below, Good}
 use Rattle.account.proofs.Edits.{raise-name, raise-ref, alive-time, alive-is, under-of, home-lives, up-grants, sim-drop, sim-change}
-use Rattle.account.proofs.Look.{recOf, Tied, live-inside, rec-on, zero-dead, same-name, look-no, Miss, hit-named, miss-named, hit-waiting, waiting-kind, named-kind, named-name}
-use Rattle.account.proofs.Tables.{put-slots, tied-none, some-slot}
+use Rattle.account.proofs.Look.{Tied, live-inside, rec-on, live-some, same-name, look-no, Miss, hit-named, miss-named, hit-waiting, waiting-kind, named-kind, named-name}
+use Rattle.account.proofs.Tables.{put-slots, onRec, on-map, map-slots, tied-none, some-slot}
 
-endS : ℕ → Slot → Slot
-endS s a = record { r = endRec s (a .r); e = a .e }
-
-on-end : (s : ℕ) (A : List Slot) (i : ℕ) → on (map (endS s) A) i ≡ endS s (on A i)
-unfolding endS
-on-end s A i =
-    let d : endS s noSlot ≡ noSlot = ap (λ (b : Rec). record { r = b; e = noLine }) (if-same (eqb 0 s) freeRec) in
-    ap (λ (d : Slot). getD (map (endS s) A) i d) (sym d) ∙ List·getD-map (endS s) A i noSlot
-
-map-end : (s : ℕ) (A : List Slot) → map (endRec s) (map recOf A) ≡ map recOf (map (endS s) A)
-unfolding endS
-map-end s [] = refl
-map-end s (a ∷ A) = ap (λ (l : List Rec). endRec s (a .r) ∷ l) (map-end s A)
-
-end-slots : (s : ℕ) (slots : List Rec) (A : List Slot) → freeRec ∷ slots ≡ map recOf A → freeRec ∷ map (endRec s) slots ≡ map recOf (map (endS s) A)
-end-slots s slots A e = ap (λ (r : Rec). r ∷ map (endRec s) slots) (sym (if-same (eqb 0 s) freeRec)) ∙ ap (map (endRec s)) e ∙ map-end s A
+end-free : (s : ℕ) → endRec s freeRec ≡ freeRec
+end-free s = if-same (eqb 0 s) freeRec
 
 -- a session's own record names no session
 session-free : (A : List Slot) (a : Slot) → Placed A a → a .r .kind ≡ 2 → a .r .session ≡ 0
@@ -49,45 +35,41 @@ session-free A a (session k s n u v t) h = s
 session-free A a (below k u) h = absurd (omega arith)
 
 -- The session in slot s
-module _ (L : Notebook) (t : Table) (w : Tied L t) (s : ℕ) (ls : lives (L .clock) (w .A) s ≡ true) (ks : on (w .A) s .r .kind ≡ 2) where
+module _ {K : Known} (L : Notebook) (t : Table) (w : Tied K L t) (s : ℕ) (ls : lives (L .clock) (w .A) s ≡ true) (ks : on (w .A) s .r .kind ≡ 2) where
   goes : ℕ → Bool
   goes i = eqb i s || eqb (on (w .A) i .r .session) s
 
   rest : List Slot
-  rest = set (map (endS s) (w .A)) s noSlot
+  rest = set (map (onRec (endRec s)) (w .A)) s noSlot
 
-  inside : s < length (map (endS s) (w .A))
-  inside = rw (length-map (w .A) (endS s)) (live-inside (L .clock) (w .A) s ls)
+  inside : s < length (map (onRec (endRec s)) (w .A))
+  inside = rw (length-map (w .A) (onRec (endRec s))) (live-inside (L .clock) (w .A) s ls)
 
   some : 1 ≤ s
-  some = go s ls
-    where
-      go : (k : ℕ) → lives (L .clock) (w .A) k ≡ true → 1 ≤ k
-      go zero l = absurd (clash l (zero-dead L t w))
-      go (suc k) l = omega arith
+  some = live-some L t w s ls
 
   rest-keep : (i : ℕ) → goes i ≡ false → on rest i ≡ on (w .A) i
-  unfolding goes rest endS
+  unfolding goes rest
   rest-keep i z =
       let p = or-both (eqb i s) (eqb (on (w .A) i .r .session) s) z in
-      getD-set-other (map (endS s) (w .A)) s i noSlot noSlot (eqb-false i s (p .0)) ∙ on-end s (w .A) i ∙ rw (p .1)
+      getD-set-other (map (onRec (endRec s)) (w .A)) s i noSlot noSlot (eqb-false i s (p .0)) ∙ on-map (endRec s) (end-free s) (w .A) i ∙ rw (p .1)
 
   rest-gone : (i : ℕ) → goes i ≡ true → lives (L .clock) rest i ≡ false
-  unfolding goes rest endS
+  unfolding goes rest
   rest-gone i z = go (ℕ-discrete i s)
     where
       go : Dec (i ≡ s) → lives (L .clock) rest i ≡ false
-      go (yes e) = let h : on (set (map (endS s) (w .A)) s noSlot) i ≡ noSlot = rw e (getD-set-same (map (endS s) (w .A)) s noSlot noSlot inside) in rw h
+      go (yes e) = let h : on (set (map (onRec (endRec s)) (w .A)) s noSlot) i ≡ noSlot = rw e (getD-set-same (map (onRec (endRec s)) (w .A)) s noSlot noSlot inside) in rw h
       go (no ne) =
           let y : eqb (on (w .A) i .r .session) s ≡ true = rw (ne-eqb i s ne) at z in
-          let h : on (set (map (endS s) (w .A)) s noSlot) i ≡ endS s (on (w .A) i) = getD-set-other (map (endS s) (w .A)) s i noSlot noSlot ne ∙ on-end s (w .A) i in
+          let h : on (set (map (onRec (endRec s)) (w .A)) s noSlot) i ≡ onRec (endRec s) (on (w .A) i) = getD-set-other (map (onRec (endRec s)) (w .A)) s i noSlot noSlot ne ∙ on-map (endRec s) (end-free s) (w .A) i in
           rw (h, y)
 
   agree : (i : ℕ) → lives (L .clock) (w .A) i ≡ true → ofSession (nameOf (on (w .A) s .r)) (on (w .A) i .e) ≡ goes i
   unfolding goes
   agree i l = rw (g .kind-eq) (go (g .placed))
     where
-      g : Good (w .A) (w .n) (on (w .A) i)
+      g : Good K (w .A) (w .n) (on (w .A) i)
       g = w .sim .good i l
 
       zero-other : eqb 0 s ≡ false
@@ -108,11 +90,7 @@ module _ (L : Notebook) (t : Table) (w : Tied L t) (s : ℕ) (ls : lives (L .clo
 
       go : Placed (w .A) (on (w .A) i) → (not (eqb (on (w .A) i .r .kind) aLogin) && same (on (w .A) i .e .session) (nameOf (on (w .A) s .r))) ≡ (eqb i s || eqb (on (w .A) i .r .session) s)
       go (login k x) = rw (k, x, zero-other, other-slot (λ e. omega arith))
-      go (session k x n u b v) = rw (k, x, zero-other, n, sessions i l) (or-none (eqb i s))
-        where
-          or-none : (b : Bool) → b ≡ (b || false)
-          or-none true = refl
-          or-none false = refl
+      go (session k x n u b v) = rw (k, x, zero-other, n, sessions i l) (sym (or-no (eqb i s)))
       go (below k u) =
           let z : eqb (on (w .A) i .r .kind) aLogin ≡ false = ne-eqb (on (w .A) i .r .kind) 1 (λ e. omega arith) in
           rw (z, u .sess-eq, other-slot (λ e. omega arith), sessions (on (w .A) i .r .session) (home-lives (L .clock) (w .A) (on (w .A) i) u (alive-time (L .clock) (on (w .A) i .r) l)))
@@ -131,29 +109,29 @@ module _ (L : Notebook) (t : Table) (w : Tied L t) (s : ℕ) (ls : lives (L .clo
       let g = up-grants (w .A) _ _ _ k (u .line) e in
       rw (g .1, p .1, ne-eqb (suc k) s (λ x. let y : on (w .A) s .r .kind ≡ 6 = rw x at (g .0) in omega arith))
 
-  pub tied-ended : Tied (closeAll ended (ofSession (nameOf (on (w .A) s .r))) L) (endSession s t)
+  pub tied-ended : Tied K (closeAll ended (ofSession (nameOf (on (w .A) s .r))) L) (endSession s t)
   unfolding closeAll endSession rest
   tied-ended =
       record {
         A = rest;
         n = w .n;
-        slots-are = put-slots (map (endRec s) (t .slots)) (map (endS s) (w .A)) s noSlot (end-slots s (t .slots) (w .A) (w .slots-are)) some;
+        slots-are = put-slots (map (endRec s) (t .slots)) (map (onRec (endRec s)) (w .A)) s noSlot (map-slots (endRec s) (end-free s) (t .slots) (w .A) (w .slots-are)) some;
         clock-is = w .clock-is;
         next-is = w .next-is;
         sim =
-            sim-drop L (w .A) rest (w .n) (w .sim) goes (ofSession (nameOf (on (w .A) s .r))) ended refl (length-set (map (endS s) (w .A)) s noSlot ∙ length-map (w .A) (endS s)) rest-keep rest-gone
+            sim-drop L (w .A) rest (w .n) (w .sim) goes (ofSession (nameOf (on (w .A) s .r))) ended refl (length-set (map (onRec (endRec s)) (w .A)) s noSlot ∙ length-map (w .A) (onRec (endRec s))) rest-keep rest-gone
             agree homes parents;
       }
 
 -- The session of a cookie ends, if it is live
-module _ (L : Notebook) (t : Table) (w : Tied L t) (cookie : Text) where
-  pub end-some : eqb (sessionOf cookie t) 0 ≡ false → Tied (closeAll ended (ofSession cookie) L) (endSession (sessionOf cookie t) t)
+module _ {K : Known} (L : Notebook) (t : Table) (w : Tied K L t) (cookie : Text) where
+  pub end-some : eqb (sessionOf cookie t) 0 ≡ false → Tied K (closeAll ended (ofSession cookie) L) (endSession (sessionOf cookie t) t)
   end-some e =
       let h = hit-named L t w aSession cookie refl e in
       let n = named-name (L .clock) aSession cookie (on (w .A) (sessionOf cookie t) .r) (h .passes) in
       rw n at (tied-ended L t w (sessionOf cookie t) (h .live) (named-kind (L .clock) aSession cookie (on (w .A) (sessionOf cookie t) .r) (h .passes)))
 
-  pub end-none : eqb (sessionOf cookie t) 0 ≡ true → Tied (closeAll ended (ofSession cookie) L) t
+  pub end-none : eqb (sessionOf cookie t) 0 ≡ true → Tied K (closeAll ended (ofSession cookie) L) t
   end-none e = tied-none L t w (ofSession cookie) ended refl (record { line = look-all; all = all })
     where
       m : Miss L (w .A) (isLine aSession cookie)
@@ -201,13 +179,13 @@ raised A r =
       since = r .since;
     }
 
-raised-is : (L : Notebook) (t : Table) (w : Tied L t) (k : ℕ) → turned aGrant (recAt k (t .slots)) (t .slots) ≡ raised (w .A) (on (w .A) k .r)
+raised-is : {K : Known} (L : Notebook) (t : Table) (w : Tied K L t) (k : ℕ) → turned aGrant (recAt k (t .slots)) (t .slots) ≡ raised (w .A) (on (w .A) k .r)
 unfolding turned raised
 raised-is L t w k = rw (rec-on L t w k, rec-on L t w (on (w .A) k .r .session))
 
-module _ (A : List Slot) (n : ℕ) (a : Slot) (g : Good A n a) (k : a .r .kind ≡ 5) where
+module _ {K : Known} (A : List Slot) (n : ℕ) (a : Slot) (g : Good K A n a) (k : a .r .kind ≡ 5) where
   abbrev grantSlot : Slot
-  grantSlot = record { r = raised A (a .r); e = raise (a .e) }
+  grantSlot = record { r = raised A (a .r); e = raise (a .e); o = a .o }
 
   waits-under : Under A a
   waits-under = under-of A a (g .placed) (omega arith)
@@ -231,20 +209,20 @@ module _ (A : List Slot) (n : ℕ) (a : Slot) (g : Good A n a) (k : a .r .kind �
         falls = λ x. rw raised-up at (u .falls (omega arith));
       }
 
-  raised-good : Good A n grantSlot
+  raised-good : Good K A n grantSlot
   unfolding raised nameOf
   raised-good =
       record {
         kind-eq = refl;
         name-eq = g .name-eq ∙ grant-name (a .r) k;
         ref-eq = λ x. absurd (omega arith);
-        iou-eq = λ x. absurd (omega arith);
         expiry-eq = waits-under .until-eq;
         text-eq = g .text-eq;
         mark-eq = λ x. absurd (omega arith);
         fate-eq = g .fate-eq;
         young = g .young;
         placed = below (omega arith) raised-under;
+        told = record { login = λ x. absurd (omega arith); opener = λ x. absurd (omega arith); ticket = λ x. absurd (clash x refl); grant = λ x. g .told .grant (omega arith); called = λ x. absurd (omega arith) };
       }
 
   raised-alive : (c : ℕ) → c < a .r .expiry → alive c (grantSlot .r) ≡ true
@@ -255,15 +233,15 @@ module _ (A : List Slot) (n : ℕ) (a : Slot) (g : Good A n a) (k : a .r .kind �
   unfolding raised
   raised-serial = refl
 
-pub tied-raise : (L : Notebook) (t : Table) (w : Tied L t) (serial : ℕ) → eqb (waitingSlot serial t) 0 ≡ false
-    → Tied (raiseAll (isWaitingLine serial) L) (put (waitingSlot serial t) (turned aGrant (recAt (waitingSlot serial t) (t .slots)) (t .slots)) t)
+pub tied-raise : {K : Known} (L : Notebook) (t : Table) (w : Tied K L t) (serial : ℕ) → eqb (waitingSlot serial t) 0 ≡ false
+    → Tied K (raiseAll (isWaitingLine serial) L) (put (waitingSlot serial t) (turned aGrant (recAt (waitingSlot serial t) (t .slots)) (t .slots)) t)
 unfolding raiseAll
 tied-raise L t w serial e =
     let k : ℕ = waitingSlot serial t in
     let h = hit-waiting L t w serial e in
     let kind = waiting-kind L t w serial (on (w .A) k .r) (h .passes) in
     let g = w .sim .good k (h .live) in
-    let a : Slot = record { r = raised (w .A) (on (w .A) k .r); e = raise (on (w .A) k .e) } in
+    let a : Slot = record { r = raised (w .A) (on (w .A) k .r); e = raise (on (w .A) k .e); o = on (w .A) k .o } in
     record {
       A = set (w .A) k a;
       n = w .n;

@@ -1,4 +1,4 @@
--- The link between the notebook and the table: the table's slots, slot 0 first, with the notebook's line beside each;
+-- The link between the notebook and the table: the table's slots, slot 0 first, with the notebook's line beside each, and what is known of it;
 -- a free slot and a visit have none. Assumes nothing.
 use mathlib.Core.Path.{_≡_, refl, sym, ap, ap₂, _∙_}
 use mathlib.Core.Bool.{Bool, true, false, _&&_}
@@ -8,24 +8,36 @@ use native.Mathlib.Omega.{arith}
 use lib.ListN.{length, getD}
 use lib.Dec.{ltb, eqb}
 use Rattle.protocol.specs.Bytes.{if, within}
-use Rattle.protocol.specs.Tickets.{aLogin, aGrant, ticketText, iouText}
+use Rattle.protocol.specs.Tickets.{aLogin, aProxy, aGrant, ticketText, iouText}
 use Rattle.protocol.specs.Records.{Rec, freeRec, nameOf}
 use Rattle.account.specs.History.{Text}
-use Rattle.account.specs.Notebook.{held}
-use Rattle.account.proofs.Ledger.{Line, Notebook, isHeld}
+use Rattle.account.specs.Notebook.{held, isTicket, line, Line, Notebook}
+use Rattle.account.specs.Truth.{Origin, Granting, Known}
 use Rattle.account.specs.Account.{one}
-use Rattle.account.proofs.Base.{Case, is, isnt, case, clash, when, sum}
+use Rattle.account.proofs.Base.{Case, is, isnt, case, clash, when, sum, isHeld}
+
+-- what the proofs want to know of a slot besides its line: the session's sign-on; service, or pgtUrl of a grant; the chain and whether credentials
+-- came, of a grant those of the ticket accepted in the call that made it
+pub record Story : Type 0 where
+  pub since : ℕ
+  pub text : Text
+  pub chain : List Text
+  pub mark : Bool
 
 pub record Slot : Type 0 where
   pub r : Rec
   pub e : Line
+  pub o : Story
+
+abbrev pub plain : ℕ → Text → Story
+plain since text = record { since = since; text = text; chain = []; mark = false }
 
 abbrev pub noLine : Line
-noLine = record { kind = 0; name = []; ref = 0; expiry = 0; session = []; until = 0; user = []; since = 0; text = []; chain = []; mark = false; origin = []; iou = []; fate = held }
+noLine = line 0 [] 0 [] [] 0 0 held
 
 -- a record without a line: a free one, or a visit
 abbrev pub bare : Rec → Slot
-bare r = record { r = r; e = noLine }
+bare r = record { r = r; e = noLine; o = plain 0 [] }
 
 abbrev pub noSlot : Slot
 noSlot = bare freeRec
@@ -58,7 +70,7 @@ pub record Above (A : List Slot) (p s : ℕ) (chain : List Text) : Type 0 where
   pub grants : on A p .r .kind ≡ 6
   pub its-session : on A p .r .session ≡ s
   pub even : on A p .r .expiry ≡ on A s .r .expiry
-  pub linked : chain ≡ on A p .r .text ∷ on A p .e .chain
+  pub linked : chain ≡ on A p .r .text ∷ on A p .o .chain
 
 abbrev pub Up : List Slot → ℕ → ℕ → List Text → Type 0
 Up A zero s chain = chain ≡ []
@@ -77,30 +89,49 @@ pub record Under (A : List Slot) (a : Slot) : Type 0 where
   pub home : on A (a .r .session) .r .kind ≡ 2
   pub sess-eq : a .e .session ≡ nameOf (on A (a .r .session) .r)
   pub user-eq : a .e .user ≡ on A (a .r .session) .r .text
-  pub since-eq : a .e .since ≡ on A (a .r .session) .r .since
+  pub since-eq : a .o .since ≡ on A (a .r .session) .r .since
   pub until-eq : a .e .until ≡ on A (a .r .session) .r .expiry
   pub within : a .r .expiry ≤ on A (a .r .session) .r .expiry
   pub lasts : a .r .kind ≡ 6 → a .r .expiry ≡ on A (a .r .session) .r .expiry
-  pub line : Up A (upOf (a .r)) (a .r .session) (a .e .chain)
+  pub line : Up A (upOf (a .r)) (a .r .session) (a .o .chain)
   pub falls : 5 ≤ a .r .kind → a .r .depth ≡ suc (deep A (upOf (a .r)))
 
 pub data Placed (A : List Slot) (a : Slot) : Type 0 where
   login : a .r .kind ≡ 1 → a .r .session ≡ 0 → Placed A a
-  session : a .r .kind ≡ 2 → a .r .session ≡ 0 → a .e .session ≡ nameOf (a .r) → a .e .user ≡ a .r .text → a .e .since ≡ a .r .since → a .e .until ≡ a .r .expiry → Placed A a
+  session : a .r .kind ≡ 2 → a .r .session ≡ 0 → a .e .session ≡ nameOf (a .r) → a .e .user ≡ a .r .text → a .o .since ≡ a .r .since → a .e .until ≡ a .r .expiry → Placed A a
   below : 3 ≤ a .r .kind → Under A a → Placed A a
 
-pub record Good (A : List Slot) (n : ℕ) (a : Slot) : Type 0 where
+-- what is known from the history of a slot: a login ticket, a session, a ticket, a grant
+abbrev pub originOf : Slot → Origin
+originOf a = record { issued = true; service = a .o .text; user = a .e .user; since = a .o .since; chain = a .o .chain; proxied = eqb (a .r .kind) aProxy; credentials = a .o .mark }
+
+pub record Granted (g : Granting) (user : Text) (o : Story) : Type 0 where
+  pub made : g .from .issued ≡ true
+  pub url-eq : g .url ≡ o .text
+  pub user-eq : g .from .user ≡ user
+  pub since-eq : g .from .since ≡ o .since
+  pub chain-eq : g .from .chain ≡ o .chain
+  pub mark-eq : g .from .credentials ≡ o .mark
+
+pub record Told (K : Known) (a : Slot) : Type 0 where
+  pub login : a .r .kind ≡ 1 → K .login (a .e .name) ≡ a .e .expiry
+  pub opener : a .r .kind ≡ 2 → K .opener (a .e .name) ≡ record { user = a .e .user; since = a .o .since }
+  pub ticket : isTicket (a .r .kind) ≡ true → K .origin (a .e .name) ≡ originOf a
+  pub grant : 5 ≤ a .r .kind → Granted (K .grant (a .e .name)) (a .e .user) (a .o)
+  pub called : a .r .kind ≡ 5 → Granted (K .called (a .e .ref)) (a .e .user) (a .o) × (K .called (a .e .ref) .iou ≡ iouText (a .r .iou))
+
+pub record Good (K : Known) (A : List Slot) (n : ℕ) (a : Slot) : Type 0 where
   pub kind-eq : a .e .kind ≡ a .r .kind
   pub name-eq : a .e .name ≡ nameOf (a .r)
   pub ref-eq : a .r .kind ≡ 5 → a .e .ref ≡ a .r .serial
-  pub iou-eq : a .r .kind ≡ 5 → a .e .iou ≡ iouText (a .r .iou)
   pub expiry-eq : a .e .expiry ≡ a .r .expiry
-  pub text-eq : a .e .text ≡ a .r .text
+  pub text-eq : a .o .text ≡ a .r .text
   -- a grant's record has lost its ticket's mark
-  pub mark-eq : a .r .kind ≤ 5 → a .r .mark ≡ one (a .e .mark)
+  pub mark-eq : a .r .kind ≤ 5 → a .r .mark ≡ one (a .o .mark)
   pub fate-eq : isHeld (a .e .fate) ≡ true
   pub young : a .r .serial < n
   pub placed : Placed A a
+  pub told : Told K a
 
 -- the text of a serial below n
 pub record Before (n : ℕ) (x : Text) : Type 0 where
@@ -112,10 +143,10 @@ pub record Before (n : ℕ) (x : Text) : Type 0 where
   pub is-name : x ≡ ticketText kind serial secret
   pub below : serial < n
 
-pub record Sim (L : Notebook) (A : List Slot) (n : ℕ) : Type 0 where
+pub record Sim (K : Known) (L : Notebook) (A : List Slot) (n : ℕ) : Type 0 where
   pub sums : (f : Line → ℕ) → total f (L .book) ≡ weigh (L .clock) f A
   pub known : (e : Line) → List·Memᴰ e (L .book) → isHeld (e .fate) ≡ true → (i : ℕ) × (lives (L .clock) A i ≡ true) × (on A i .e ≡ e)
-  pub good : (i : ℕ) → lives (L .clock) A i ≡ true → Good A n (on A i)
+  pub good : (i : ℕ) → lives (L .clock) A i ≡ true → Good K A n (on A i)
   pub one : (i j : ℕ) → lives (L .clock) A i ≡ true → lives (L .clock) A j ≡ true → on A i .r .serial ≡ on A j .r .serial → i ≡ j
   pub old : (e : Line) → List·Memᴰ e (L .book) → Before n (e .name)
   pub refs : (e : Line) → List·Memᴰ e (L .book) → e .ref < n
@@ -153,21 +184,24 @@ placed-move A B a es ek (login k s) = login k s
 placed-move A B a es ek (session k s n u v t) = session k s n u v t
 placed-move A B a es ek (below k u) = below k (under-move A B a (es k) (ek k) u)
 
-pub good-move : (A B : List Slot) (n m : ℕ) (a : Slot) → n ≤ m → (3 ≤ a .r .kind → on B (a .r .session) ≡ on A (a .r .session))
-    → (3 ≤ a .r .kind → (k : ℕ) → upOf (a .r) ≡ suc k → on B (suc k) ≡ on A (suc k)) → Good A n a → Good B m a
-good-move A B n m a le es ek g =
+good-with : {K K′ : Known} {A B : List Slot} {n m : ℕ} {a : Slot} → Good K A n a → n ≤ m → Placed B a → Told K′ a → Good K′ B m a
+good-with g le placed told =
     record {
       kind-eq = g .kind-eq;
       name-eq = g .name-eq;
       ref-eq = g .ref-eq;
-      iou-eq = g .iou-eq;
       expiry-eq = g .expiry-eq;
       text-eq = g .text-eq;
       mark-eq = g .mark-eq;
       fate-eq = g .fate-eq;
       young = omega (arith, g .young);
-      placed = placed-move A B a es ek (g .placed);
+      placed = placed;
+      told = told;
     }
+
+pub good-move : {K : Known} (A B : List Slot) (n m : ℕ) (a : Slot) → n ≤ m → (3 ≤ a .r .kind → on B (a .r .session) ≡ on A (a .r .session))
+    → (3 ≤ a .r .kind → (k : ℕ) → upOf (a .r) ≡ suc k → on B (suc k) ≡ on A (suc k)) → Good K A n a → Good K B m a
+good-move A B n m a le es ek g = good-with g le (placed-move A B a es ek (g .placed)) (g .told)
 
 -- the pointwise lemma: the notebook's lines go through g, the slots from A to B
 
@@ -195,7 +229,7 @@ pub data Turn (c d : ℕ) (A B : List Slot) (g : Line → Line) (i : ℕ) : Type
 abbrev pub through : ℕ → (Line → Line) → Notebook → Notebook
 through d g L = record { clock = d; book = map g (L .book) }
 
-module _ (L : Notebook) (d : ℕ) (A B : List Slot) (n : ℕ) (S : Sim L A n) (g : Line → Line)
+module _ {K : Known} (L : Notebook) (d : ℕ) (A B : List Slot) (n : ℕ) (S : Sim K L A n) (g : Line → Line)
     (closed : (e : Line) → isHeld (e .fate) ≡ false → isHeld (g e .fate) ≡ false)
     (names : (e : Line) → g e .name ≡ e .name) (numbers : (e : Line) → g e .ref ≡ e .ref)
     (len : length B ≡ length A) (turn : (i : ℕ) → Turn (L .clock) d A B g i) where
@@ -242,7 +276,7 @@ module _ (L : Notebook) (d : ℕ) (A B : List Slot) (n : ℕ) (S : Sim L A n) (g
       go (goes _ z _) = absurd (clash b z)
       go (never _ z) = absurd (clash b z)
 
-  pub sim-through : ((i : ℕ) → lives d B i ≡ true → Good B n (on B i)) → Sim (through d g L) B n
+  pub sim-through : ((i : ℕ) → lives d B i ≡ true → Good K B n (on B i)) → Sim K (through d g L) B n
   sim-through goodB =
       record {
         sums = λ (f : Line → ℕ). total-map f g closed (L .book) ∙ S .sums (λ e. heft f (g e)) ∙ sym (weigh-ext (L .clock) d f (λ e. heft f (g e)) A B len (turn-weight f));
@@ -253,3 +287,16 @@ module _ (L : Notebook) (d : ℕ) (A B : List Slot) (n : ℕ) (S : Sim L A n) (g
         refs = turn-refs;
         top = S .top;
       }
+
+-- more is known of the live slots
+pub sim-aged : {K K′ : Known} {L : Notebook} {A : List Slot} {n : ℕ} → Sim K L A n → ((i : ℕ) → lives (L .clock) A i ≡ true → Told K (on A i) → Told K′ (on A i)) → Sim K′ L A n
+sim-aged {A = A} S more =
+    record {
+      sums = S .sums;
+      known = S .known;
+      good = λ i l. let g = S .good i l in good-with g (omega arith) (g .placed) (more i l (g .told));
+      one = S .one;
+      old = S .old;
+      refs = S .refs;
+      top = S .top;
+    }

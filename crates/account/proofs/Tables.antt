@@ -15,12 +15,12 @@ use Rattle.protocol.specs.Table.{Table, putAt}
 use Rattle.protocol.specs.Steps.{clearRec, tick, put, remove, slotFor, add}
 use Rattle.protocol.proofs.Added.{Room}
 use Rattle.protocol.proofs.Laws.{and-false}
-use Rattle.account.specs.Notebook.{Fate, expired}
-use Rattle.account.proofs.Ledger.{Line, Notebook, isHeld, closeLine, closeAll, enter, pass}
-use Rattle.account.proofs.Base.{if-same, clash}
-use Rattle.account.proofs.Sim.{Slot, noLine, bare, noSlot, on, alive, lives, upOf, Under, session, Good, Sim, good-move}
+use Rattle.account.specs.Notebook.{Fate, expired, Line, Notebook, closeLine, closeAll, enter, pass}
+use Rattle.account.specs.Truth.{Known}
+use Rattle.account.proofs.Base.{if-same, clash, isHeld}
+use Rattle.account.proofs.Sim.{Slot, bare, noSlot, on, alive, lives, upOf, Under, session, Good, Sim, good-move}
 use Rattle.account.proofs.Edits.{alive-time, free-dead, under-of, home-lives, parent-lives, up-grants, sim-drop, sim-put, sim-time}
-use Rattle.account.proofs.Look.{recOf, Tied, live-inside, rec-on, size-is, zero-dead, Miss}
+use Rattle.account.proofs.Look.{recOf, Tied, live-inside, rec-on, size-is, live-some, Miss}
 
 pub map-set : (A : List Slot) (k : ℕ) (a : Slot) → set (map recOf A) k (a .r) ≡ map recOf (set A k a)
 map-set [] k a = refl
@@ -32,8 +32,23 @@ pub put-slots : (slots : List Rec) (A : List Slot) (k : ℕ) (a : Slot) → free
 put-slots slots A zero a e h = absurd (omega arith)
 put-slots slots A (suc k) a e h = ap (λ (l : List Rec). set l (suc k) (a .r)) e ∙ map-set A (suc k) a
 
+-- every record goes through g, which leaves a free one as it is
+abbrev pub onRec : (Rec → Rec) → Slot → Slot
+onRec g a = record { r = g (a .r); e = a .e; o = a .o }
+
+module _ (g : Rec → Rec) (free : g freeRec ≡ freeRec) where
+  pub on-map : (A : List Slot) (i : ℕ) → on (map (onRec g) A) i ≡ onRec g (on A i)
+  on-map A i = ap (λ (d : Slot). getD (map (onRec g) A) i d) (sym (ap bare free)) ∙ List·getD-map (onRec g) A i noSlot
+
+  map-rec : (A : List Slot) → map g (map recOf A) ≡ map recOf (map (onRec g) A)
+  map-rec [] = refl
+  map-rec (a ∷ A) = ap (λ (l : List Rec). g (a .r) ∷ l) (map-rec A)
+
+  pub map-slots : (slots : List Rec) (A : List Slot) → freeRec ∷ slots ≡ map recOf A → freeRec ∷ map g slots ≡ map recOf (map (onRec g) A)
+  map-slots slots A e = ap (λ (r : Rec). r ∷ map g slots) (sym free) ∙ ap (map g) e ∙ map-rec A
+
 -- Where no live line is picked, closing changes nothing
-pub tied-none : (L : Notebook) (t : Table) (w : Tied L t) (q : Line → Bool) (F : Fate) → isHeld F ≡ false → Miss L (w .A) q → Tied (closeAll F q L) t
+pub tied-none : {K : Known} (L : Notebook) (t : Table) (w : Tied K L t) (q : Line → Bool) (F : Fate) → isHeld F ≡ false → Miss L (w .A) q → Tied K (closeAll F q L) t
 unfolding closeAll
 tied-none L t w q F hF m =
     record {
@@ -48,13 +63,9 @@ tied-none L t w q F hF m =
     }
 
 -- A live record that nothing names leaves its slot: to none, or to a visit
-module _ (L : Notebook) (t : Table) (w : Tied L t) (k : ℕ) (lk : lives (L .clock) (w .A) k ≡ true) (ns : on (w .A) k .r .kind ≢ 2) (ng : on (w .A) k .r .kind ≢ 6) where
+module _ {K : Known} (L : Notebook) (t : Table) (w : Tied K L t) (k : ℕ) (lk : lives (L .clock) (w .A) k ≡ true) (ns : on (w .A) k .r .kind ≢ 2) (ng : on (w .A) k .r .kind ≢ 6) where
   pub some-slot : 1 ≤ k
-  some-slot = go k lk
-    where
-      go : (k : ℕ) → lives (L .clock) (w .A) k ≡ true → 1 ≤ k
-      go zero l = absurd (clash l (zero-dead L t w))
-      go (suc k) l = omega arith
+  some-slot = live-some L t w k lk
 
   other-home : (a : Slot) → Under (w .A) a → eqb (a .r .session) k ≡ false
   other-home a u = ne-eqb (a .r .session) k (λ e. ns (rw e at (u .home)))
@@ -76,7 +87,7 @@ module _ (L : Notebook) (t : Table) (w : Tied L t) (k : ℕ) (lk : lives (L .clo
 
     pub tied-left : (q : Line → Bool) (F : Fate) → isHeld F ≡ false → q (on (w .A) k .e) ≡ true
         → ((j : ℕ) → lives (L .clock) (w .A) j ≡ true → j ≢ k → q (on (w .A) j .e) ≡ false)
-        → (v : Tied (closeAll F q L) (put k x t)) × (v .A ≡ set (w .A) k (bare x)) × (v .n ≡ w .n)
+        → (v : Tied K (closeAll F q L) (put k x t)) × (v .A ≡ set (w .A) k (bare x)) × (v .n ≡ w .n)
     unfolding closeAll left
     tied-left q F hF picked others = (
       record {
@@ -101,7 +112,7 @@ module _ (L : Notebook) (t : Table) (w : Tied L t) (k : ℕ) (lk : lives (L .clo
             go (no ne) = others i l ne ∙ sym (ne-eqb i k ne)
 
     -- what was said of it still holds of its session and parents
-    pub left-good : Good (set (w .A) k (bare x)) (w .n) (on (w .A) k)
+    pub left-good : Good K (set (w .A) k (bare x)) (w .n) (on (w .A) k)
     left-good =
         let g = w .sim .good k lk in
         good-move (w .A) (set (w .A) k (bare x)) (w .n) (w .n) (on (w .A) k) (omega arith)
@@ -110,18 +121,18 @@ module _ (L : Notebook) (t : Table) (w : Tied L t) (k : ℕ) (lk : lives (L .clo
         g
 
   pub tied-remove : (q : Line → Bool) (F : Fate) → isHeld F ≡ false → q (on (w .A) k .e) ≡ true
-      → ((j : ℕ) → lives (L .clock) (w .A) j ≡ true → j ≢ k → q (on (w .A) j .e) ≡ false) → Tied (closeAll F q L) (remove k t)
+      → ((j : ℕ) → lives (L .clock) (w .A) j ≡ true → j ≢ k → q (on (w .A) j .e) ≡ false) → Tied K (closeAll F q L) (remove k t)
   tied-remove q F hF picked others = tied-left freeRec refl q F hF picked others .0
 
 -- A record is added in the slot that is found free
-pub serial-is : (L : Notebook) (t : Table) (w : Tied L t) → 1 ≤ t .next → (t .next ≡ w .n) × (w .n < 4294967296)
+pub serial-is : {K : Known} (L : Notebook) (t : Table) (w : Tied K L t) → 1 ≤ t .next → (t .next ≡ w .n) × (w .n < 4294967296)
 serial-is L t w h =
     let e = w .next-is in
     let m = w .sim .top in
     (omega arith, omega arith)
 
-pub tied-add : (L : Notebook) (t : Table) (w : Tied L t) → Room t → (a : Slot) → alive (L .clock) (a .r) ≡ true → a .r .serial ≡ w .n → a .e .ref ≤ w .n
-    → Good (w .A) (suc (w .n)) a → Tied (enter (a .e) L) (add (a .r) t)
+pub tied-add : {K : Known} (L : Notebook) (t : Table) (w : Tied K L t) → Room t → (a : Slot) → alive (L .clock) (a .r) ≡ true → a .r .serial ≡ w .n → a .e .ref ≤ w .n
+    → Good K (w .A) (suc (w .n)) a → Tied K (enter (a .e) L) (add (a .r) t)
 unfolding add enter
 tied-add L t w m a la sa ra ga =
     let s = serial-is L t w (m .serial) in
@@ -138,35 +149,18 @@ tied-add L t w m a la sa ra ga =
 
 -- The clock moves and the dead are cleared
 
-clearS : ℕ → Slot → Slot
-clearS c a = record { r = clearRec c (a .r); e = a .e }
-
-on-clear : (c : ℕ) (A : List Slot) (i : ℕ) → on (map (clearS c) A) i ≡ clearS c (on A i)
-unfolding clearS
-on-clear c A i =
-    let d : clearS c noSlot ≡ noSlot = ap (λ (b : Rec). record { r = b; e = noLine }) (if-same (ltb c 0) freeRec) in
-    ap (λ (d : Slot). getD (map (clearS c) A) i d) (sym d) ∙ List·getD-map (clearS c) A i noSlot
-
-map-clear : (c : ℕ) (A : List Slot) → map (clearRec c) (map recOf A) ≡ map recOf (map (clearS c) A)
-unfolding clearS
-map-clear c [] = refl
-map-clear c (a ∷ A) = ap (λ (l : List Rec). clearRec c (a .r) ∷ l) (map-clear c A)
-
-clear-slots : (c : ℕ) (slots : List Rec) (A : List Slot) → freeRec ∷ slots ≡ map recOf A → freeRec ∷ map (clearRec c) slots ≡ map recOf (map (clearS c) A)
-clear-slots c slots A e =
-    ap (λ (r : Rec). r ∷ map (clearRec c) slots) (sym (if-same (ltb c 0) freeRec))
-    ∙ ap (map (clearRec c)) e
-    ∙ map-clear c A
+clear-free : (c : ℕ) → clearRec c freeRec ≡ freeRec
+clear-free c = if-same (ltb c 0) freeRec
 
 close-none : (F : Fate) (l : List Line) → map (closeLine F (λ (e : Line). false)) l ≡ l
 close-none F [] = refl
 close-none F (e ∷ es) = ap₂ _∷_ (rw (and-false (isHeld (e .fate)))) (close-none F es)
 
-sim-clear : (L : Notebook) (A : List Slot) (n : ℕ) → Sim L A n → Sim L (map (clearS (L .clock)) A) n
-unfolding closeAll clearS
+sim-clear : {K : Known} (L : Notebook) (A : List Slot) (n : ℕ) → Sim K L A n → Sim K L (map (onRec (clearRec (L .clock))) A) n
+unfolding closeAll
 sim-clear L A n S =
     let s =
-    sim-drop L A (map (clearS (L .clock)) A) n S (λ i. not (ltb (L .clock) (on A i .r .expiry))) (λ (e : Line). false) expired refl (length-map A (clearS (L .clock))) keep gone
+    sim-drop L A (map (onRec (clearRec (L .clock))) A) n S (λ i. not (ltb (L .clock) (on A i .r .expiry))) (λ (e : Line). false) expired refl (length-map A (onRec (clearRec (L .clock)))) keep gone
     (λ i l. sym (rw (fresh i l)))
     (λ i l u z. rw (fresh _ (home-lives (L .clock) A (on A i) u (alive-time (L .clock) (on A i .r) l))))
     (λ i k l u e z. rw (fresh (suc k) (parent-lives (L .clock) A (on A i) k u (alive-time (L .clock) (on A i .r) l) e))) in
@@ -175,20 +169,20 @@ sim-clear L A n S =
     fresh : (i : ℕ) → lives (L .clock) A i ≡ true → ltb (L .clock) (on A i .r .expiry) ≡ true
     fresh i l = lt-ltb (L .clock) (on A i .r .expiry) (alive-time (L .clock) (on A i .r) l)
 
-    keep : (i : ℕ) → not (ltb (L .clock) (on A i .r .expiry)) ≡ false → on (map (clearS (L .clock)) A) i ≡ on A i
-    keep i z = on-clear (L .clock) A i ∙ rw (not-false (ltb (L .clock) (on A i .r .expiry)) z)
+    keep : (i : ℕ) → not (ltb (L .clock) (on A i .r .expiry)) ≡ false → on (map (onRec (clearRec (L .clock))) A) i ≡ on A i
+    keep i z = on-map (clearRec (L .clock)) (clear-free (L .clock)) A i ∙ rw (not-false (ltb (L .clock) (on A i .r .expiry)) z)
 
-    gone : (i : ℕ) → not (ltb (L .clock) (on A i .r .expiry)) ≡ true → lives (L .clock) (map (clearS (L .clock)) A) i ≡ false
-    gone i z = rw (on-clear (L .clock) A i, not-true (ltb (L .clock) (on A i .r .expiry)) z)
+    gone : (i : ℕ) → not (ltb (L .clock) (on A i .r .expiry)) ≡ true → lives (L .clock) (map (onRec (clearRec (L .clock))) A) i ≡ false
+    gone i z = rw (on-map (clearRec (L .clock)) (clear-free (L .clock)) A i, not-true (ltb (L .clock) (on A i .r .expiry)) z)
 
-pub tied-pass : (L : Notebook) (t : Table) (time : ℕ) → Tied L t → Tied (pass time L) (tick time t)
+pub tied-pass : {K : Known} (L : Notebook) (t : Table) (time : ℕ) → Tied K L t → Tied K (pass time L) (tick time t)
 unfolding pass closeAll tick
 tied-pass L t time w =
     let s = sim-time L (w .A) (w .n) (w .sim) (max (L .clock) time) (omega arith) in
     record {
-      A = map (clearS (max (L .clock) time)) (w .A);
+      A = map (onRec (clearRec (max (L .clock) time))) (w .A);
       n = w .n;
-      slots-are = rw (w .clock-is) (clear-slots (max (L .clock) time) (t .slots) (w .A) (w .slots-are));
+      slots-are = rw (w .clock-is) (map-slots (clearRec (max (L .clock) time)) (clear-free (max (L .clock) time)) (t .slots) (w .A) (w .slots-are));
       clock-is = rw (w .clock-is);
       next-is = w .next-is;
       sim = sim-clear _ (w .A) (w .n) s;

@@ -11,6 +11,8 @@ use lib.Seq.{take-append-seam, drop-append-add}
 use Rattle.protocol.specs.Bytes.{if, ascii, isEmpty, same, within, allWithin, holds, upTo, spliced, digits, decimal, hex, hexDigit}
 use Rattle.protocol.specs.Tickets.{ticketText, prefix, secretLength}
 use Rattle.protocol.specs.Records.{Rec, nameOf}
+use Rattle.protocol.specs.Table.{Table}
+use Rattle.protocol.specs.Steps.{newRec}
 use Rattle.protocol.specs.Answers.{escaped, escapedByte, extended, pageHead, formText, lineIf, inResponse, proxySuccessText, redirectText, callbackText}
 use Rattle.protocol.proofs.Laws.{both}
 use Rattle.protocol.proofs.Names.{digits-within}
@@ -74,7 +76,7 @@ prefix-letters (suc (suc (suc (suc (suc zero))))) l h = refl
 prefix-letters (suc (suc (suc (suc (suc (suc zero)))))) l h = refl
 prefix-letters (suc (suc (suc (suc (suc (suc (suc k))))))) l h = absurd (omega arith)
 
-pub name-letters : (r : Rec) → 1 ≤ r .kind → r .kind ≤ 6 → letters (nameOf r) ≡ true
+name-letters : (r : Rec) → 1 ≤ r .kind → r .kind ≤ 6 → letters (nameOf r) ≡ true
 unfolding nameOf ticketText letters letter
 name-letters r l h =
     letters-append (prefix (r .kind)) _ (prefix-letters (r .kind) l h)
@@ -180,3 +182,13 @@ text-some (suc (suc (suc (suc (suc (suc (suc k))))))) s x l h = absurd (omega ar
 pub name-some : (r : Rec) → 1 ≤ r .kind → r .kind ≤ 6 → isEmpty (nameOf r) ≡ false
 unfolding nameOf
 name-some r l h = text-some (r .kind) (r .serial) (r .secret) l h
+
+-- of a new record
+module _ (kind mark parent session depth : ℕ) (text random : List ℕ) (t : Table) (l : 1 ≤ kind) (h : kind ≤ 6) where
+  pub new-letters : letters (nameOf (newRec kind mark parent session depth text random t)) ≡ true
+  unfolding newRec
+  new-letters = name-letters (newRec kind mark parent session depth text random t) l h
+
+  pub new-some : isEmpty (nameOf (newRec kind mark parent session depth text random t)) ≡ false
+  unfolding newRec
+  new-some = name-some (newRec kind mark parent session depth text random t) l h

@@ -16,23 +16,23 @@
 -- Words that it shares with the server, so that an error in them is an error in both: how a request is read into its parameters, and when it is
 -- malformed (`requestOf`, `pathPart`, `queryPart`); the register (`decodeRegister`, `unknownService`); the record of a table (`decodeTable`, `nameOf`,
 -- `live`); lifetimes (`lifetime`); the wording of the success document besides user and proxies (`successText`: date, mark, IOU); the numbers of a
--- result's cases (`numberOf`, `serialOf`); and the byte helpers `same`, `among`, `cuts`, `part`, `upTo`.
+-- result's cases (`numberOf`, `serialOf`); and the byte helpers `isEmpty`, `same`, `among`, `cuts`, `part`, `upTo`.
 use mathlib.Core.Path.{_≡_}
 use mathlib.Core.Bool.{Bool, true, false, _&&_, _||_}
 use mathlib.Core.List.{List, [], _∷_}
 use Prim.Native.Nat.{ℕ, zero, suc, _+_, _≤_}
 use lib.Dec.{eqb}
 use lib.ListN.{length, take, drop, getD}
-use Rattle.protocol.specs.Bytes.{if, ascii, same, among, cuts}
+use Rattle.protocol.specs.Bytes.{if, ascii, isEmpty, same, among, cuts}
 use Rattle.protocol.specs.Records.{Rec, nameOf, live}
 use Rattle.protocol.specs.Table.{decodeTable}
 use Rattle.protocol.specs.Request.{pathPart}
 use Rattle.protocol.specs.Answers.{successText}
 use Rattle.protocol.specs.declared.Answer.{Answer}
 use Rattle.account.specs.History.{Text, Call, ask, tell, Event}
-use Rattle.account.specs.Reading.{Item, Passed, Showed, SignedOn, Ended, Opened, Issued, Proxied, Burnt, Welcomed, CalledBack, Settled, carries, tells, callsBack, saidIn, trailOf}
-use Rattle.account.specs.Notebook.{held, accepted, burnt, ended, expired, cameTo, Notebook, isTicket, isTicketLine, isWaitingLine, isFound, look, notebook, tally}
-use Rattle.account.specs.Truth.{Origin, Granting, known, count}
+use Rattle.account.specs.Reading.{Showing, Said, carries, tells, callsBack, saidIn, trailOf}
+use Rattle.account.specs.Notebook.{held, accepted, burnt, ended, expired, cameTo, Notebook, isTicket, isTicketLine, isWaitingLine, isFound, look, pass, notebook, tally}
+use Rattle.account.specs.Truth.{Origin, Granting, Known, known, liveIn, count}
 
 -- Counted straight from the results
 
@@ -114,49 +114,41 @@ pub record Tells (user : Text) (chain : List Text) (said : Text) : Type 0 where
   pub its-user : textsIn (ascii "cas:user>") (cuts 60 said) ≡ user ∷ []
   pub its-chain : textsIn (ascii "cas:proxy>") (cuts 60 said) ≡ chain
 
--- What is owed for each thing said, by all that was said before
+-- What is owed for what a call says, by all that was said before it
 
 -- an accepted ticket: it was held just then; it was issued, to this very service; under renew by a call with accepted credentials; a proxy
 -- ticket only by proxyValidate
-pub record Rightful (path : Text) (renew : Bool) (ticket service : Text) (o : Origin) (b : Notebook) : Type 0 where
-  pub was-held : isFound (look (isTicketLine ticket) (b .book)) ≡ true
+pub record Rightful (x : Showing) (o : Origin) (b : Notebook) : Type 0 where
+  pub was-held : isFound (look (isTicketLine (x .ticket)) (b .book)) ≡ true
   pub issued : o .issued ≡ true
-  pub its-service : o .service ≡ service
-  pub primary : renew ≡ true → o .credentials ≡ true
-  pub allowed : o .proxied ≡ true → path ≡ ascii "/cas/proxyValidate"
+  pub its-service : o .service ≡ x .service
+  pub primary : x .renew ≡ true → o .credentials ≡ true
+  pub allowed : o .proxied ≡ true → x .path ≡ ascii "/cas/proxyValidate"
 
 -- what a validator says of it: validate `yes`, the others a document with the user, the sign-on time, the mark, which is 1 where credentials
 -- came with the issuing call, and the chain
-pub record Welcome (path : Text) (o : Origin) (said : Text) : Type 0 where
+pub record Welcome (path said : Text) (o : Origin) : Type 0 where
   pub bytes : said ≡ if (same path (ascii "/cas/validate")) (ascii "yes\n") (successText (o .user) (o .since) (one (o .credentials)) [] (o .chain))
   pub telling : same path (ascii "/cas/validate") ≡ false → Tells (o .user) (o .chain) said
 
 -- what finish says of the callback of a serial, whose grant still waited: the same of the ticket accepted, and the IOU that was shown only where
 -- the outcome was yes
-pub record Settlement (serial : ℕ) (outcome : Bool) (said : Text) (g : Granting) (b : Notebook) : Type 0 where
-  pub waited : isFound (look (isWaitingLine serial) (b .book)) ≡ true
-  pub made : g .made ≡ true
-  pub bytes : said ≡ successText (g .user) (g .since) (one (g .credentials)) (if outcome (g .iou) []) (g .chain)
-  pub telling : Tells (g .user) (g .chain) said
+pub record Settlement (s : Said) (g : Granting) (b : Notebook) : Type 0 where
+  pub waited : isFound (look (isWaitingLine (s .serial)) (b .book)) ≡ true
+  pub made : g .from .issued ≡ true
+  pub bytes : s .said ≡ successText (g .from .user) (g .from .since) (one (g .from .credentials)) (if (s .outcome) (g .iou) []) (g .from .chain)
+  pub telling : Tells (g .from .user) (g .from .chain) (s .said)
 
--- a session is opened by accepted credentials only
-abbrev pub Owed : ℕ → Item → List Item → Type 0
-Owed start (Passed time) older = Unit {0}
-Owed start (Showed lt) older = Unit {0}
-Owed start (SignedOn cookie c) older = Unit {0}
-Owed start (Ended cookie) older = Unit {0}
-Owed start (Opened cookie c) older = (c .given ≡ true) × (known start older .login (c .lt) .spentLive ≡ true)
-Owed start (Issued cookie service ticket c) older = Unit {0}
-Owed start (Proxied pgt target ticket) older = Unit {0}
-Owed start (Burnt ticket) older = Unit {0}
-Owed start (Welcomed path renew ticket service said) older =
-    Rightful path renew ticket service (known start older .origin ticket) (notebook start older) × Welcome path (known start older .origin ticket) said
-Owed start (CalledBack path renew ticket service url pgt iou serial) older = Rightful path renew ticket service (known start older .origin ticket) (notebook start older)
-Owed start (Settled serial outcome said) older = Settlement serial outcome said (known start older .called serial) (notebook start older)
+-- for one call, by what was known and the notebook as its time had passed; a session is opened by accepted credentials only
+pub record Owed (s : Said) (k : Known) (b : Notebook) : Type 0 where
+  pub opens : isEmpty (s .opened) ≡ false → (s .by .given ≡ true) × (liveIn s k ≡ true)
+  pub accepts : s .showing .accepted ≡ true → Rightful (s .showing) (k .origin (s .showing .ticket)) b
+  pub welcomes : s .showing .accepted ≡ true → isEmpty (s .showing .pgt) ≡ true → Welcome (s .showing .path) (s .said) (k .origin (s .showing .ticket))
+  pub settles : s .settled ≡ true → Settlement s (k .called (s .serial)) b
 
-unfoldable pub Honest : ℕ → List Item → Type 0
+unfoldable pub Honest : ℕ → List Said → Type 0
 Honest start [] = Unit {0}
-Honest start (i ∷ older) = Owed start i older × Honest start older
+Honest start (s ∷ older) = Owed s (known start older) (pass (s .time) (notebook start older)) × Honest start older
 
 -- the account of a history h since the format at the time start, beside the table's bytes b after it
 pub record Account (start : ℕ) (h : List Event) (b : Text) : Type 0 where

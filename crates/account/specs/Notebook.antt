@@ -4,10 +4,10 @@ use mathlib.Core.Bool.{Bool, true, false, _&&_, _||_, not}
 use mathlib.Core.List.{List, [], _∷_, map}
 use Prim.Native.Nat.{ℕ, _+_, min, max}
 use lib.Dec.{eqb, leb}
-use Rattle.protocol.specs.Bytes.{if, same}
+use Rattle.protocol.specs.Bytes.{if, isEmpty, same}
 use Rattle.protocol.specs.Tickets.{aLogin, aSession, aService, aProxy, aWaiting, aGrant, lifetime}
 use Rattle.account.specs.History.{Text}
-use Rattle.account.specs.Reading.{Item, Passed, Showed, SignedOn, Ended, Opened, Issued, Proxied, Burnt, Welcomed, CalledBack, Settled}
+use Rattle.account.specs.Reading.{Credentials, Showing, Said}
 
 -- held until it comes to its end: accepted at step 6, burnt at 3 to 5, ended by logout or a change of user, expired by the clock;
 -- login tickets and waiting grants are spent
@@ -112,9 +112,9 @@ raiseAll test b = record { clock = b .clock; book = map (raiseLine test) (b .boo
 unfoldable pub enter : Line → Notebook → Notebook
 enter e b = record { clock = b .clock; book = e ∷ b .book }
 
-abbrev pub enterUnder : Look → (Line → Line) → Notebook → Notebook
-enterUnder (found s) make b = enter (make s) b
-enterUnder nothing make b = b
+abbrev pub enterUnder : Look → ℕ → Text → ℕ → Notebook → Notebook
+enterUnder (found s) kind name ref b = enter (lineUnder kind name ref (b .clock) s) b
+enterUnder nothing kind name ref b = b
 
 -- the clock moves to the larger time; what expires by then is expired
 unfoldable pub pass : ℕ → Notebook → Notebook
@@ -125,29 +125,43 @@ abbrev pub endOther : Look → Text → Text → Notebook → Notebook
 endOther (found s) cookie user b = if (same (s .user) user) b (closeAll ended (ofSession cookie) b)
 endOther nothing cookie user b = b
 
-abbrev pub changeUser : Bool → Text → Text → Notebook → Notebook
-changeUser credited cookie user b = if credited (endOther (look (isLine aSession cookie) (b .book)) cookie user b) b
+-- What the clerk does for each part of what a call says, and nothing where it is empty
 
--- what the clerk does for each thing that is said
-unfoldable pub note : Item → Notebook → Notebook
-note (Passed time) b = pass time b
-note (Showed lt) b = enter (loginLine lt (b .clock)) b
-note (SignedOn cookie c) b = changeUser (c .given && isFound (look (isLine aLogin (c .lt)) (b .book))) cookie (c .user) (closeAll spent (isLine aLogin (c .lt)) b)
-note (Ended cookie) b = closeAll ended (ofSession cookie) b
-note (Opened cookie c) b = enter (sessionLine cookie (c .user) (b .clock)) b
-note (Issued cookie service ticket c) b = enterUnder (look (isLine aSession cookie) (b .book)) (lineUnder aService ticket 0 (b .clock)) b
-note (Proxied pgt target ticket) b = enterUnder (look (isLine aGrant pgt) (b .book)) (lineUnder aProxy ticket 0 (b .clock)) b
-note (Burnt ticket) b = closeAll burnt (isTicketLine ticket) b
-note (Welcomed path renew ticket service said) b = closeAll accepted (isTicketLine ticket) b
-note (CalledBack path renew ticket service url pgt iou serial) b =
-    enterUnder (look (isTicketLine ticket) (b .book)) (lineUnder aWaiting pgt serial (b .clock)) (closeAll accepted (isTicketLine ticket) b)
-note (Settled serial true said) b = raiseAll (isWaitingLine serial) b
-note (Settled serial false said) b = closeAll spent (isWaitingLine serial) b
+-- an edit, where it applies
+abbrev pub edit : Bool → (Notebook → Notebook) → Notebook → Notebook
+edit applies change b = if applies (change b) b
+
+-- a sign-on spends its login ticket; where that was held and the credentials given, it may change the user
+abbrev pub signOn : Text → Credentials → Notebook → Notebook
+signOn cookie c b =
+    edit (c .given && isFound (look (isLine aLogin (c .lt)) (b .book))) (λ (d : Notebook). endOther (look (isLine aSession cookie) (d .book)) cookie (c .user) d) (closeAll spent (isLine aLogin (c .lt)) b)
+
+-- a ticket is issued under the session of a cookie, or by a grant
+abbrev pub issue : Text → Text → Text → Notebook → Notebook
+issue ticket session grant b =
+    if (isEmpty grant) (enterUnder (look (isLine aSession session) (b .book)) aService ticket 0 b) (enterUnder (look (isLine aGrant grant) (b .book)) aProxy ticket 0 b)
+
+-- a ticket comes to its end, and with a callback it has a waiting grant
+abbrev pub judge : Showing → ℕ → Notebook → Notebook
+judge x serial b =
+    edit (not (isEmpty (x .pgt))) (enterUnder (look (isTicketLine (x .ticket)) (b .book)) aWaiting (x .pgt) serial) (closeAll (if (x .accepted) accepted burnt) (isTicketLine (x .ticket)) b)
+
+-- the time first
+unfoldable pub note : Said → Notebook → Notebook
+note s b =
+    edit (s .settled && not (s .outcome)) (closeAll spent (isWaitingLine (s .serial)))
+    (edit (s .settled && s .outcome) (raiseAll (isWaitingLine (s .serial)))
+    (edit (not (isEmpty (s .showing .ticket))) (judge (s .showing) (s .serial))
+    (edit (not (isEmpty (s .issued))) (issue (s .issued) (s .session) (s .grant))
+    (edit (not (isEmpty (s .form))) (λ (d : Notebook). enter (loginLine (s .form) (d .clock)) d)
+    (edit (s .ended) (closeAll ended (ofSession (s .cookie)))
+    (edit (not (isEmpty (s .opened))) (λ (d : Notebook). enter (sessionLine (s .opened) (s .by .user) (d .clock)) d)
+    (edit (s .by .posted) (signOn (s .cookie) (s .by)) (pass (s .time) b))))))))
 
 -- the notebook after all that was said; at first it is empty, under the clock of the format
-unfoldable pub notebook : ℕ → List Item → Notebook
+unfoldable pub notebook : ℕ → List Said → Notebook
 notebook start [] = record { clock = start; book = [] }
-notebook start (i ∷ is) = note i (notebook start is)
+notebook start (s ∷ older) = note s (notebook start older)
 
 -- how many service and proxy tickets, of those whose text passes a test, have come to a fate
 unfoldable pub tally : (Text → Bool) → (Fate → Bool) → List Line → ℕ

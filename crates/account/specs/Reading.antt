@@ -1,7 +1,7 @@
 -- Reading one call and its answer: what they say of tickets, by the request's own words, by the result and by the known places of the answer's
 -- bytes. Nothing is remembered from one call to the next, and no table is read.
-use mathlib.Core.Bool.{Bool, false, _&&_, _||_, not}
-use mathlib.Core.List.{List, [], _∷_, _++_}
+use mathlib.Core.Bool.{Bool, true, false, _&&_, _||_, not}
+use mathlib.Core.List.{List, [], _∷_}
 use Prim.Native.Nat.{ℕ, _+_}
 use lib.Dec.{eqb}
 use lib.ListN.{length, take, drop}
@@ -14,54 +14,61 @@ use Rattle.protocol.specs.declared.Answer.{Answer}
 use Rattle.protocol.specs.declared.Answer.the-variants as answer
 use Rattle.account.specs.History.{Text, AnswerCall, Call, ask, tell, Event}
 
--- what a call shows for itself: a username, whether the host said yes to it with a username and a password and for no unknown service, and a
--- login ticket
+-- What a call says. An empty text is none, and a part whose first field is empty or false is none
+
+-- a sign-on: a username, whether the host said yes to it with a username and a password and for no unknown service, and a login ticket
 pub record Credentials : Type 0 where
+  pub posted : Bool
   pub user : Text
   pub given : Bool
   pub lt : Text
 
+-- a ticket shown to the validator of a path for a service, with pgtUrl, and accepted or burnt; and the waiting grant and the IOU of a callback
+pub record Showing : Type 0 where
+  pub ticket : Text
+  pub service : Text
+  pub path : Text
+  pub renew : Bool
+  pub accepted : Bool
+  pub url : Text
+  pub pgt : Text
+  pub iou : Text
+
+pub record Said : Type 0 where
+  -- when the call was answered, and the cookie that it came with
+  pub time : ℕ
+  pub cookie : Text
+  -- a sign-on, and the cookie of the session that it opened
+  pub by : Credentials
+  pub opened : Text
+  -- the session of the cookie ended
+  pub ended : Bool
+  -- the login ticket that a form shows
+  pub form : Text
+  -- the ticket that is issued to a service, under the session of a cookie; or by a grant, where there is one
+  pub issued : Text
+  pub service : Text
+  pub session : Text
+  pub grant : Text
+  pub showing : Showing
+  -- finish told success, for this outcome; the serial of its callback, or of the callback that a validator makes; and the bytes said by either
+  pub settled : Bool
+  pub outcome : Bool
+  pub serial : ℕ
+  pub said : Text
+
 abbrev pub noCredentials : Credentials
-noCredentials = record { user = []; given = false; lt = [] }
+noCredentials = record { posted = false; user = []; given = false; lt = [] }
 
-abbrev pub credentialsIn : AnswerCall → Posted → Credentials
-credentialsIn a p =
-    record {
-      user = p .username;
-      given = a .verdict && not (isEmpty (p .username)) && not (isEmpty (p .password)) && not (unknownService (p .service) (decodeRegister (a .register)));
-      lt = p .lt;
-    }
+abbrev pub noShowing : Showing
+noShowing = record { ticket = []; service = []; path = []; renew = false; accepted = false; url = []; pgt = []; iou = [] }
 
--- what a call and its answer say
-pub data Item : Type 0 where
-  -- the call was answered at this time
-  Passed : (time : ℕ) → Item
-  -- a form shows a new login ticket
-  Showed : (lt : Text) → Item
-  -- a sign-on with these credentials, under the session of this cookie: its login ticket is spent; and if that was live and the credentials
-  -- given, then the session ends, with all its tickets, where it is another user's
-  SignedOn : (cookie : Text) → Credentials → Item
-  -- the session of this cookie, if it is live, ends with all its tickets
-  Ended : (cookie : Text) → Item
-  -- a session is opened by credentials, and its cookie is written
-  Opened : (cookie : Text) → Credentials → Item
-  -- a service ticket is issued to a service under the session of a cookie, by a call with these credentials
-  Issued : (cookie service ticket : Text) → Credentials → Item
-  -- a proxy ticket is issued to a service by a grant
-  Proxied : (pgt target ticket : Text) → Item
-  -- a ticket is shown to a validator and not accepted
-  Burnt : (ticket : Text) → Item
-  -- the validator of a path accepts a ticket for a service, and says so with these bytes
-  Welcomed : (path : Text) → (renew : Bool) → (ticket service said : Text) → Item
-  -- the validator of a path accepts a ticket for a service and calls back: to pgtUrl, with a waiting grant, an IOU and the serial for finish
-  CalledBack : (path : Text) → (renew : Bool) → (ticket service url pgt iou : Text) → (serial : ℕ) → Item
-  -- finish tells success for the waiting grant of a serial, with these bytes
-  Settled : (serial : ℕ) → (outcome : Bool) → (said : Text) → Item
+-- a call in which no ticket is shown and nothing settled
+abbrev pub says : AnswerCall → Credentials → Text → Bool → Text → Text → Text → Text → Text → Said
+says a by opened ended form issued service session grant =
+    record { time = a .time; cookie = a .cookie; by = by; opened = opened; ended = ended; form = form; issued = issued; service = service; session = session; grant = grant; showing = noShowing; settled = false; outcome = false; serial = 0; said = [] }
 
--- what a result says: a page; a redirect with a ticket; yes or success; a callback
-abbrev pub isPage : Answer → Bool
-isPage r = eqb (numberOf r) 1
-
+-- what a result says: a redirect with a ticket; yes or success; a callback
 abbrev pub carries : Answer → Bool
 carries answer.Nothing = false
 carries (answer.Page status) = false
@@ -117,65 +124,63 @@ proxyStart = ascii "<cas:serviceResponse xmlns:cas=\"http://www.yale.edu/tp/cas\
 abbrev pub proxyIn : Text → Text
 proxyIn said = upTo 60 (drop (length proxyStart) said)
 
--- login: a redirect with a ticket under the session of a cookie, or a form
-unfoldable pub readLogin : Text → Text → Credentials → Answer → Text → List Item
-readLogin cookie service c r said =
-    if (carries r) (Issued cookie service (ticketIn service said) c ∷ [])
-    (if (isPage r && isForm said) (Showed (loginIn said) ∷ []) [])
+-- login: a redirect with a ticket under the session after the call, or a form; a sign-on that writes a cookie opens its session
+abbrev pub credentialsIn : AnswerCall → Posted → Credentials
+credentialsIn a p =
+    record { posted = true; user = p .username; given = a .verdict && not (isEmpty (p .username)) && not (isEmpty (p .password)) && not (unknownService (p .service) (decodeRegister (a .register))); lt = p .lt }
 
--- a sign-on that writes a cookie opens its session, and the session after it is that one, else the one shown
-abbrev pub readOpened : Text → Credentials → List Item
-readOpened [] c = []
-readOpened (b ∷ cookie) c = Opened (b ∷ cookie) c ∷ []
-
-abbrev pub cookieAfter : Text → Text → Text
-cookieAfter shown [] = shown
-cookieAfter shown (b ∷ cookie) = b ∷ cookie
+unfoldable pub readLogin : AnswerCall → Credentials → Text → Answer → Text → Text → Said
+readLogin a by service r said opened =
+    says a by opened false (if (eqb (numberOf r) 1 && isForm said) (loginIn said) []) (if (carries r) (ticketIn service said) []) service (if (isEmpty opened) (a .cookie) opened) []
 
 -- a validator, where service and ticket are there: yes, success and callback accept the ticket, all else burns it
-unfoldable pub readValidator : Text → Bool → Shown → Answer → Text → List Item
-readValidator path renew x r said =
-    if (isEmpty (x .service) || isEmpty (x .ticket)) []
-    (if (tells r) (Welcomed path renew (x .ticket) (x .service) said ∷ [])
-    (if (callsBack r) (CalledBack path renew (x .ticket) (x .service) (x .pgtUrl) (pgtIn (x .pgtUrl) said) (iouIn (x .pgtUrl) said) (serialOf r) ∷ [])
-    (Burnt (x .ticket) ∷ [])))
+abbrev pub showingIn : AnswerCall → Shown → Answer → Text → Showing
+showingIn a x r said =
+    record {
+      ticket = x .ticket;
+      service = x .service;
+      path = pathPart (a .target);
+      renew = asksRenew (queryPart (a .target));
+      accepted = tells r || callsBack r;
+      url = x .pgtUrl;
+      pgt = if (callsBack r) (pgtIn (x .pgtUrl) said) [];
+      iou = if (callsBack r) (iouIn (x .pgtUrl) said) [];
+    }
 
--- a request; a malformed one says nothing, and logout ends the session where it clears the cookie
-unfoldable pub readRequest : AnswerCall → Request → Answer → Text → Text → Bool → List Item
-readRequest a NoPath r said cookie cleared = []
-readRequest a NotTaken r said cookie cleared = []
-readRequest a (LoginGet Malformed) r said cookie cleared = []
-readRequest a (LoginGet (Given q)) r said cookie cleared = readLogin (a .cookie) (q .service) noCredentials r said
-readRequest a (LoginPost Malformed) r said cookie cleared = []
-readRequest a (LoginPost (Given p)) r said cookie cleared =
-    readLogin (cookieAfter (a .cookie) cookie) (p .service) (credentialsIn a p) r said
-    ++ (readOpened cookie (credentialsIn a p) ++ (SignedOn (a .cookie) (credentialsIn a p) ∷ []))
-readRequest a (Logout url) r said cookie cleared = if cleared (Ended (a .cookie) ∷ []) []
-readRequest a (Validate v Malformed) r said cookie cleared = []
-readRequest a (Validate v (Given x)) r said cookie cleared = readValidator (pathPart (a .target)) (asksRenew (queryPart (a .target))) x r said
-readRequest a (Proxy Malformed) r said cookie cleared = []
-readRequest a (Proxy (Given w)) r said cookie cleared = if (tells r) (Proxied (w .pgt) (w .target) (proxyIn said) ∷ []) []
+abbrev pub shows : AnswerCall → Showing → ℕ → Text → Said
+shows a showing serial said =
+    record { time = a .time; cookie = a .cookie; by = noCredentials; opened = []; ended = false; form = []; issued = []; service = []; session = []; grant = []; showing = showing; settled = false; outcome = false; serial = serial; said = said }
 
--- an answered call: the newest first, and the time before all
-unfoldable pub readCall : Call → Answer → Text → Text → Bool → List Item
-readCall (ask a) r said cookie cleared = readRequest a (requestOf (a .method) (a .target) (a .body)) r said cookie cleared ++ (Passed (a .time) ∷ [])
-readCall (tell f) r said cookie cleared = if (tells r) (Settled (f .serial) (f .outcome) said ∷ []) [] ++ (Passed (f .time) ∷ [])
+-- the time, and whether the session of the cookie ended
+abbrev pub quiet : AnswerCall → Bool → Said
+quiet a ended = says a noCredentials [] ended [] [] [] [] []
 
--- the bytes of the answer, and the cookie written
+-- a request; a malformed one says nothing but the time, and logout ends the session where it clears the cookie
+unfoldable pub readRequest : AnswerCall → Request → Answer → Text → Text → Bool → Said
+readRequest a NoPath r said cookie cleared = quiet a false
+readRequest a NotTaken r said cookie cleared = quiet a false
+readRequest a (LoginGet Malformed) r said cookie cleared = quiet a false
+readRequest a (LoginGet (Given q)) r said cookie cleared = readLogin a noCredentials (q .service) r said []
+readRequest a (LoginPost Malformed) r said cookie cleared = quiet a false
+readRequest a (LoginPost (Given p)) r said cookie cleared = readLogin a (credentialsIn a p) (p .service) r said cookie
+readRequest a (Logout url) r said cookie cleared = quiet a cleared
+readRequest a (Validate v Malformed) r said cookie cleared = quiet a false
+readRequest a (Validate v (Given x)) r said cookie cleared = shows a (if (isEmpty (x .service) || isEmpty (x .ticket)) noShowing (showingIn a x r said)) (serialOf r) said
+readRequest a (Proxy Malformed) r said cookie cleared = quiet a false
+readRequest a (Proxy (Given w)) r said cookie cleared = says a noCredentials [] false [] (if (tells r) (proxyIn said) []) (w .target) [] (w .pgt)
+
+unfoldable pub readCall : Call → Answer → Text → Text → Bool → Said
+readCall (ask a) r said cookie cleared = readRequest a (requestOf (a .method) (a .target) (a .body)) r said cookie cleared
+readCall (tell f) r said cookie cleared =
+    record { time = f .time; cookie = []; by = noCredentials; opened = []; ended = false; form = []; issued = []; service = []; session = []; grant = []; showing = noShowing; settled = tells r; outcome = f .outcome; serial = f .serial; said = said }
+
+-- the bytes of an answer
 abbrev pub saidIn : Event → Text
 saidIn e = take (e .outcome .length) (e .out)
 
-abbrev pub cookieIn : Event → Text
-cookieIn e = take (e .outcome .«cookie_length») (e .cookie)
-
--- a refused call says nothing
-unfoldable pub read : Event → List Item
-read e =
-    if (eqb (e .outcome .refusal) 0)
-    (readCall (e .call) (e .outcome .answer) (saidIn e) (cookieIn e) (e .outcome .«cookie_cleared»))
-    []
-
--- all that a history says, the newest first
-unfoldable pub trailOf : List Event → List Item
+-- all that a history says, the newest first, with the cookies written; a refused call says nothing
+unfoldable pub trailOf : List Event → List Said
 trailOf [] = []
-trailOf (e ∷ es) = read e ++ trailOf es
+trailOf (e ∷ es) =
+    if (eqb (e .outcome .refusal) 0)
+    (readCall (e .call) (e .outcome .answer) (saidIn e) (take (e .outcome .«cookie_length») (e .cookie)) (e .outcome .«cookie_cleared») ∷ trailOf es) (trailOf es)

@@ -21,7 +21,7 @@ use Rattle.protocol.specs.Answers.{escapedByte, escaped, extended, pageHead, fo
 use Rattle.protocol.specs.Steps.{tick, endSession, isNamed, slotNamed, ticketSlot, slotFor, roomFor, expiryFor, newRec, add, chainFrom, chainOf, formWith, formStep, ticketWith, ticketStep, signedOn, unknownService, wayOf, taken, loginGet, admitted, needs, keepSession, sessionWith, openSession, standingOf, admits, accepted, admissionOf, entered, credentials, loginPost, rulingOf, turned, leftBy, grants, waitingWith, grantOrTell, acceptTicket, ruled, presented, validate, waitingSlot, finished, finishAt, finish, proxyWith, proxyBy, proxy, withoutSession, linkTo, logout, requestStep}
 use Rattle.protocol.specs.Calls.{Result, outcomeWith, answerRefusal, stepOf, delivered, answerOf, finishRefusal, finishOf, formatRefusal, formatOf, checkOf, formRefusal, formOf}
 use Rattle.account.specs.History.{Text, Call, ask, tell, Event, served, eventOf, tableAfter, historyOf}
-use Rattle.account.specs.Reading.{Credentials, noCredentials, Item, Passed, Showed, SignedOn, Ended, Opened, Issued, Proxied, Burnt, Welcomed, CalledBack, Settled, renewAmong, readLogin, readValidator, readRequest, readCall, read, trailOf}
+use Rattle.account.specs.Reading.{Credentials, Showing, Said, noCredentials, noShowing, renewAmong, readLogin, readRequest, readCall, trailOf}
 use Rattle.account.specs.Notebook.{burnt, ended, expired, cameTo, closeAll, enter, raiseAll, pass, look, note, notebook, tally}
 use Rattle.account.specs.Truth.{known, count}
 use Rattle.account.specs.Account.{issuedBy, acceptedBy, successBy, sumOf, waitingAmong, waitingIn}
@@ -88,7 +88,7 @@ calls =
 
 -- the whole life of the table
 whole : Lived
-unfolding lived calls asked register joined same among allDiffer allWithin noPoint announced withTails notBelow pointAt pointsFrom points pointRight pointsRight nameRight holds leOf bytesOf spliced upTo past cuts digits hex blocks checkFrom houseCheck sealed checkRight deepest markMost depthLeast depthMost textLeast textMost secretFrom iouFrom sinceFrom ticketText iouText recBody encodeRec decodeRec nameOf textRight fieldsRight sinceRight serialRight expiryRight ownRight headBody encodeTable decodeTable slotFrom countKind serialTaken serialsDiffer sessionRight grantRight parentRight allRight loginCap rulesHold tableLawful formatted entryBody encodeEntry decodeEntry decodeRegister addressRight entryRight allEntriesRight servicesOf registerLawful registered callbackOf pathNamed notEmpty pieces countNamed firstNamed occurrences rawValue hexValue unitOf skipOf decodedFrom valueMost charsRight valueRight loginNames bodyNames logoutNames validatorNames proxyNames badName malformed valueOf present askedOf posted leaving shown wanted escapedByte escaped extended pageHead formText inResponse proxyLines isLeap yearLength monthLength yearFrom yearOf monthFrom monthOf dateOf padded dayText clockText dateText attributesText successText failureText proxySuccessText callbackText replyText replyAnswer tick endSession isNamed slotNamed ticketSlot slotFor roomFor expiryFor newRec add chainFrom chainOf formWith formStep ticketWith ticketStep signedOn unknownService wayOf taken loginGet admitted needs keepSession sessionWith openSession standingOf admits accepted admissionOf entered credentials loginPost rulingOf turned leftBy grants waitingWith grantOrTell acceptTicket ruled presented validate waitingSlot finished finishAt finish proxyWith proxyBy proxy withoutSession linkTo logout requestStep outcomeWith answerRefusal stepOf delivered answerOf finishRefusal finishOf formatRefusal formatOf checkOf formRefusal formOf served eventOf tableAfter historyOf renewAmong readLogin readValidator readRequest readCall read trailOf closeAll enter raiseAll pass look note notebook tally known count issuedBy acceptedBy successBy sumOf waitingAmong waitingIn
+unfolding lived calls asked register joined same among allDiffer allWithin noPoint announced withTails notBelow pointAt pointsFrom points pointRight pointsRight nameRight holds leOf bytesOf spliced upTo past cuts digits hex blocks checkFrom houseCheck sealed checkRight deepest markMost depthLeast depthMost textLeast textMost secretFrom iouFrom sinceFrom ticketText iouText recBody encodeRec decodeRec nameOf textRight fieldsRight sinceRight serialRight expiryRight ownRight headBody encodeTable decodeTable slotFrom countKind serialTaken serialsDiffer sessionRight grantRight parentRight allRight loginCap rulesHold tableLawful formatted entryBody encodeEntry decodeEntry decodeRegister addressRight entryRight allEntriesRight servicesOf registerLawful registered callbackOf pathNamed notEmpty pieces countNamed firstNamed occurrences rawValue hexValue unitOf skipOf decodedFrom valueMost charsRight valueRight loginNames bodyNames logoutNames validatorNames proxyNames badName malformed valueOf present askedOf posted leaving shown wanted escapedByte escaped extended pageHead formText inResponse proxyLines isLeap yearLength monthLength yearFrom yearOf monthFrom monthOf dateOf padded dayText clockText dateText attributesText successText failureText proxySuccessText callbackText replyText replyAnswer tick endSession isNamed slotNamed ticketSlot slotFor roomFor expiryFor newRec add chainFrom chainOf formWith formStep ticketWith ticketStep signedOn unknownService wayOf taken loginGet admitted needs keepSession sessionWith openSession standingOf admits accepted admissionOf entered credentials loginPost rulingOf turned leftBy grants waitingWith grantOrTell acceptTicket ruled presented validate waitingSlot finished finishAt finish proxyWith proxyBy proxy withoutSession linkTo logout requestStep outcomeWith answerRefusal stepOf delivered answerOf finishRefusal finishOf formatRefusal formatOf checkOf formRefusal formOf served eventOf tableAfter historyOf renewAmong readLogin readRequest readCall trailOf closeAll enter raiseAll pass look note notebook tally known count issuedBy acceptedBy successBy sumOf waitingAmong waitingIn
 whole = lived (formatOf (zeros 4608) 999 .table) calls
 
 -- the texts of tickets whose secrets are zeros
@@ -116,48 +116,48 @@ toldByProxy = ascii "<cas:serviceResponse xmlns:cas=\"http://www.yale.edu/tp/cas
 
 -- what the two sign-ons show
 abbrev byAnn : Credentials
-byAnn = record { user = ascii "ann"; given = true; lt = short "LT-1-" }
+byAnn = record { posted = true; user = ascii "ann"; given = true; lt = short "LT-1-" }
 
 abbrev byBob : Credentials
-byBob = record { user = ascii "bob"; given = true; lt = short "LT-9-" }
+byBob = record { posted = true; user = ascii "bob"; given = true; lt = short "LT-9-" }
+
+-- a call of login, or of proxy: the cookie, the credentials, the session that it opens, the form that it shows; the ticket that it issues, to a
+-- service, under a session or by a grant
+abbrev asks : ℕ → Text → Credentials → Text → Text → Text → Text → Text → Text → Said
+asks time cookie by opened form issued service session grant =
+    record { time = time; cookie = cookie; by = by; opened = opened; ended = false; form = form; issued = issued; service = service; session = session; grant = grant; showing = noShowing; settled = false; outcome = false; serial = 0; said = [] }
+
+-- a ticket shown at this time, with the serial of a callback and the bytes said
+abbrev shows : ℕ → Showing → ℕ → Text → Said
+shows time showing serial said =
+    record { time = time; cookie = []; by = noCredentials; opened = []; ended = false; form = []; issued = []; service = []; session = []; grant = []; showing = showing; settled = false; outcome = false; serial = serial; said = said }
+
+abbrev anns : Text
+anns = long "TGC-2-"
+
+abbrev bobs : Text
+bobs = long "TGC-10-"
 
 -- what the calls and their answers say, the newest first; the refused call says nothing
-pub said : List Item
+pub said : List Said
 said =
-    Issued (long "TGC-10-") panelP (short "ST-11-") byBob
-    ∷ Opened (long "TGC-10-") byBob
-    ∷ SignedOn [] byBob
-    ∷ Passed 1403
-    ∷ Showed (short "LT-9-")
-    ∷ Passed 1402
-    ∷ Ended (long "TGC-2-")
-    ∷ Passed 1401
-    ∷ Issued (long "TGC-2-") panelP (short "ST-8-") noCredentials
-    ∷ Passed 1400
-    ∷ Burnt (short "ST-7-")
-    ∷ Passed 1008
-    ∷ Issued (long "TGC-2-") panelP (short "ST-7-") noCredentials
-    ∷ Passed 1007
-    ∷ Welcomed (ascii "/cas/proxyValidate") false (short "PT-5-") panelQ toldByProxy
-    ∷ Passed 1006
-    ∷ Issued (long "TGC-2-") panelP (short "ST-6-") noCredentials
-    ∷ Passed 1005
-    ∷ Proxied (long "PGT-4-") panelQ (short "PT-5-")
-    ∷ Passed 1004
-    ∷ Settled 4 true toldAtFinish
-    ∷ Passed 1003
-    ∷ CalledBack (ascii "/cas/serviceValidate") true (short "ST-3-") panelP callbackP (long "PGT-4-") (long "PGTIOU-") 4
-    ∷ Passed 1002
-    ∷ Issued (long "TGC-2-") panelP (short "ST-3-") byAnn
-    ∷ Opened (long "TGC-2-") byAnn
-    ∷ SignedOn [] byAnn
-    ∷ Passed 1001
-    ∷ Showed (short "LT-1-")
-    ∷ Passed 1000
+    asks 1403 [] byBob bobs [] (short "ST-11-") panelP bobs []
+    ∷ asks 1402 [] noCredentials [] (short "LT-9-") [] panelP [] []
+    ∷ record { time = 1401; cookie = anns; by = noCredentials; opened = []; ended = true; form = []; issued = []; service = []; session = []; grant = []; showing = noShowing; settled = false; outcome = false; serial = 0; said = [] }
+    ∷ asks 1400 anns noCredentials [] [] (short "ST-8-") panelP anns []
+    ∷ shows 1008 (record { ticket = short "ST-7-"; service = panelQ; path = ascii "/cas/validate"; renew = false; accepted = false; url = []; pgt = []; iou = [] }) 0 (ascii "no\n")
+    ∷ asks 1007 anns noCredentials [] [] (short "ST-7-") panelP anns []
+    ∷ shows 1006 (record { ticket = short "PT-5-"; service = panelQ; path = ascii "/cas/proxyValidate"; renew = false; accepted = true; url = []; pgt = []; iou = [] }) 0 toldByProxy
+    ∷ asks 1005 anns noCredentials [] [] (short "ST-6-") panelP anns []
+    ∷ asks 1004 [] noCredentials [] [] (short "PT-5-") panelQ [] (long "PGT-4-")
+    ∷ record { time = 1003; cookie = []; by = noCredentials; opened = []; ended = false; form = []; issued = []; service = []; session = []; grant = []; showing = noShowing; settled = true; outcome = true; serial = 4; said = toldAtFinish }
+    ∷ shows 1002 (record { ticket = short "ST-3-"; service = panelP; path = ascii "/cas/serviceValidate"; renew = true; accepted = true; url = callbackP; pgt = long "PGT-4-"; iou = long "PGTIOU-" }) 4 (callbackP ++ (ascii "?pgtId=" ++ (long "PGT-4-" ++ (ascii "&pgtIou=" ++ long "PGTIOU-"))))
+    ∷ asks 1001 [] byAnn anns [] (short "ST-3-") panelP anns []
+    ∷ asks 1000 [] noCredentials [] (short "LT-1-") [] panelP [] []
     ∷ []
 
-pub trailIn : Lived → List Item
-unfolding joined same among allDiffer allWithin noPoint announced withTails notBelow pointAt pointsFrom points pointRight pointsRight nameRight holds leOf bytesOf spliced upTo past cuts digits hex blocks checkFrom houseCheck sealed checkRight deepest markMost depthLeast depthMost textLeast textMost secretFrom iouFrom sinceFrom ticketText iouText recBody encodeRec decodeRec nameOf textRight fieldsRight sinceRight serialRight expiryRight ownRight headBody encodeTable decodeTable slotFrom countKind serialTaken serialsDiffer sessionRight grantRight parentRight allRight loginCap rulesHold tableLawful formatted entryBody encodeEntry decodeEntry decodeRegister addressRight entryRight allEntriesRight servicesOf registerLawful registered callbackOf pathNamed notEmpty pieces countNamed firstNamed occurrences rawValue hexValue unitOf skipOf decodedFrom valueMost charsRight valueRight loginNames bodyNames logoutNames validatorNames proxyNames badName malformed valueOf present askedOf posted leaving shown wanted escapedByte escaped extended pageHead formText inResponse proxyLines isLeap yearLength monthLength yearFrom yearOf monthFrom monthOf dateOf padded dayText clockText dateText attributesText successText failureText proxySuccessText callbackText replyText replyAnswer tick endSession isNamed slotNamed ticketSlot slotFor roomFor expiryFor newRec add chainFrom chainOf formWith formStep ticketWith ticketStep signedOn unknownService wayOf taken loginGet admitted needs keepSession sessionWith openSession standingOf admits accepted admissionOf entered credentials loginPost rulingOf turned leftBy grants waitingWith grantOrTell acceptTicket ruled presented validate waitingSlot finished finishAt finish proxyWith proxyBy proxy withoutSession linkTo logout requestStep outcomeWith answerRefusal stepOf delivered answerOf finishRefusal finishOf formatRefusal formatOf checkOf formRefusal formOf served eventOf tableAfter historyOf renewAmong readLogin readValidator readRequest readCall read trailOf closeAll enter raiseAll pass look note notebook tally known count issuedBy acceptedBy successBy sumOf waitingAmong waitingIn
+pub trailIn : Lived → List Said
+unfolding joined same among allDiffer allWithin noPoint announced withTails notBelow pointAt pointsFrom points pointRight pointsRight nameRight holds leOf bytesOf spliced upTo past cuts digits hex blocks checkFrom houseCheck sealed checkRight deepest markMost depthLeast depthMost textLeast textMost secretFrom iouFrom sinceFrom ticketText iouText recBody encodeRec decodeRec nameOf textRight fieldsRight sinceRight serialRight expiryRight ownRight headBody encodeTable decodeTable slotFrom countKind serialTaken serialsDiffer sessionRight grantRight parentRight allRight loginCap rulesHold tableLawful formatted entryBody encodeEntry decodeEntry decodeRegister addressRight entryRight allEntriesRight servicesOf registerLawful registered callbackOf pathNamed notEmpty pieces countNamed firstNamed occurrences rawValue hexValue unitOf skipOf decodedFrom valueMost charsRight valueRight loginNames bodyNames logoutNames validatorNames proxyNames badName malformed valueOf present askedOf posted leaving shown wanted escapedByte escaped extended pageHead formText inResponse proxyLines isLeap yearLength monthLength yearFrom yearOf monthFrom monthOf dateOf padded dayText clockText dateText attributesText successText failureText proxySuccessText callbackText replyText replyAnswer tick endSession isNamed slotNamed ticketSlot slotFor roomFor expiryFor newRec add chainFrom chainOf formWith formStep ticketWith ticketStep signedOn unknownService wayOf taken loginGet admitted needs keepSession sessionWith openSession standingOf admits accepted admissionOf entered credentials loginPost rulingOf turned leftBy grants waitingWith grantOrTell acceptTicket ruled presented validate waitingSlot finished finishAt finish proxyWith proxyBy proxy withoutSession linkTo logout requestStep outcomeWith answerRefusal stepOf delivered answerOf finishRefusal finishOf formatRefusal formatOf checkOf formRefusal formOf served eventOf tableAfter historyOf renewAmong readLogin readRequest readCall trailOf closeAll enter raiseAll pass look note notebook tally known count issuedBy acceptedBy successBy sumOf waitingAmong waitingIn
 trailIn l = trailOf (l .events)
 
 -- of all tickets: issued, accepted, burnt, ended, expired, waiting, successful
@@ -165,7 +165,7 @@ abbrev any : Text → Bool
 any x = true
 
 pub countsIn : Lived → List ℕ
-unfolding joined same among allDiffer allWithin noPoint announced withTails notBelow pointAt pointsFrom points pointRight pointsRight nameRight holds leOf bytesOf spliced upTo past cuts digits hex blocks checkFrom houseCheck sealed checkRight deepest markMost depthLeast depthMost textLeast textMost secretFrom iouFrom sinceFrom ticketText iouText recBody encodeRec decodeRec nameOf textRight fieldsRight sinceRight serialRight expiryRight ownRight headBody encodeTable decodeTable slotFrom countKind serialTaken serialsDiffer sessionRight grantRight parentRight allRight loginCap rulesHold tableLawful formatted entryBody encodeEntry decodeEntry decodeRegister addressRight entryRight allEntriesRight servicesOf registerLawful registered callbackOf pathNamed notEmpty pieces countNamed firstNamed occurrences rawValue hexValue unitOf skipOf decodedFrom valueMost charsRight valueRight loginNames bodyNames logoutNames validatorNames proxyNames badName malformed valueOf present askedOf posted leaving shown wanted escapedByte escaped extended pageHead formText inResponse proxyLines isLeap yearLength monthLength yearFrom yearOf monthFrom monthOf dateOf padded dayText clockText dateText attributesText successText failureText proxySuccessText callbackText replyText replyAnswer tick endSession isNamed slotNamed ticketSlot slotFor roomFor expiryFor newRec add chainFrom chainOf formWith formStep ticketWith ticketStep signedOn unknownService wayOf taken loginGet admitted needs keepSession sessionWith openSession standingOf admits accepted admissionOf entered credentials loginPost rulingOf turned leftBy grants waitingWith grantOrTell acceptTicket ruled presented validate waitingSlot finished finishAt finish proxyWith proxyBy proxy withoutSession linkTo logout requestStep outcomeWith answerRefusal stepOf delivered answerOf finishRefusal finishOf formatRefusal formatOf checkOf formRefusal formOf served eventOf tableAfter historyOf renewAmong readLogin readValidator readRequest readCall read trailOf closeAll enter raiseAll pass look note notebook tally known count issuedBy acceptedBy successBy sumOf waitingAmong waitingIn
+unfolding joined same among allDiffer allWithin noPoint announced withTails notBelow pointAt pointsFrom points pointRight pointsRight nameRight holds leOf bytesOf spliced upTo past cuts digits hex blocks checkFrom houseCheck sealed checkRight deepest markMost depthLeast depthMost textLeast textMost secretFrom iouFrom sinceFrom ticketText iouText recBody encodeRec decodeRec nameOf textRight fieldsRight sinceRight serialRight expiryRight ownRight headBody encodeTable decodeTable slotFrom countKind serialTaken serialsDiffer sessionRight grantRight parentRight allRight loginCap rulesHold tableLawful formatted entryBody encodeEntry decodeEntry decodeRegister addressRight entryRight allEntriesRight servicesOf registerLawful registered callbackOf pathNamed notEmpty pieces countNamed firstNamed occurrences rawValue hexValue unitOf skipOf decodedFrom valueMost charsRight valueRight loginNames bodyNames logoutNames validatorNames proxyNames badName malformed valueOf present askedOf posted leaving shown wanted escapedByte escaped extended pageHead formText inResponse proxyLines isLeap yearLength monthLength yearFrom yearOf monthFrom monthOf dateOf padded dayText clockText dateText attributesText successText failureText proxySuccessText callbackText replyText replyAnswer tick endSession isNamed slotNamed ticketSlot slotFor roomFor expiryFor newRec add chainFrom chainOf formWith formStep ticketWith ticketStep signedOn unknownService wayOf taken loginGet admitted needs keepSession sessionWith openSession standingOf admits accepted admissionOf entered credentials loginPost rulingOf turned leftBy grants waitingWith grantOrTell acceptTicket ruled presented validate waitingSlot finished finishAt finish proxyWith proxyBy proxy withoutSession linkTo logout requestStep outcomeWith answerRefusal stepOf delivered answerOf finishRefusal finishOf formatRefusal formatOf checkOf formRefusal formOf served eventOf tableAfter historyOf renewAmong readLogin readRequest readCall trailOf closeAll enter raiseAll pass look note notebook tally known count issuedBy acceptedBy successBy sumOf waitingAmong waitingIn
 countsIn l =
     sumOf issuedBy (l .events)
     ∷ sumOf acceptedBy (l .events)
