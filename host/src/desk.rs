@@ -114,10 +114,10 @@ impl Desk {
     /// The core with its register and its table, a new one where there is none yet. `clock_is_right` lets a jump of the clock through.
     pub fn open(config: &Config, clock_is_right: bool) -> Result<Desk, String> {
         let store = Store::open(&config.data.path)?;
-        let core = started(config)?;
+        let (core, register) = started(config)?;
         let mut desk = Desk {
             folder: config.core.path.clone(),
-            register: config.register(),
+            register,
             users: config.users.path.clone(),
             core,
             store,
@@ -295,12 +295,20 @@ fn told(Ended(why): Ended) -> String {
     format!("the core: {why}")
 }
 
-/// The core, started, with the register of this configuration.
-pub fn started(config: &Config) -> Result<Core, String> {
+/// The core, started, with the register of this configuration, whose blocks it makes itself.
+fn started(config: &Config) -> Result<(Core, Vec<u8>), String> {
+    let ended = |Ended(why)| config.core.fault(why);
     let mut core = Core::start(&config.core.path).map_err(|Ended(why)| config.core.fault(format!("the core cannot be started: {why}")))?;
-    match core.register(&config.register()).map_err(|Ended(why)| config.core.fault(why))? {
-        (0, _) => Ok(core),
-        (_, block) => Err(config.register_fault(Some(block))),
+    let mut register = Vec::new();
+    for (number, panel) in config.panels.iter().enumerate() {
+        match core.panel(&panel.service, &panel.callback).map_err(ended)? {
+            (0, block) => register.extend(block),
+            _ => return Err(config.register_fault(Some(number))),
+        }
+    }
+    match core.register(&register).map_err(ended)? {
+        (0, _) => Ok((core, register)),
+        (_, block) => Err(config.register_fault(Some(block as usize))),
     }
 }
 
@@ -317,7 +325,7 @@ fn first_call(config: &Config, core: &mut Core, time: u64) -> Result<Vec<Changed
 
 /// What there is to say of core, register and table of a configuration. The calls that show it change nothing that is stored.
 pub fn check(config: &Config) -> Result<&'static str, String> {
-    let mut core = started(config)?;
+    let (mut core, _) = started(config)?;
     let (now, ended) = (clock::now(), |Ended(why)| config.core.fault(why));
     let store = Store::exists(&config.data.path).then(|| Store::open(&config.data.path)).transpose()?;
     let table = store.as_ref().map(Store::table).transpose()?.flatten();

@@ -82,6 +82,11 @@ impl Core {
         Ok(())
     }
 
+    /// The refusal of a panel and its register block.
+    pub fn panel(&mut self, service: &str, callback: &str) -> Result<(u32, Vec<u8>), Ended> {
+        self.call(&frames::panel(service.as_bytes(), callback.as_bytes()), frames::panelled)
+    }
+
     /// The refusal of a register and the first block at fault.
     pub fn register(&mut self, blocks: &[u8]) -> Result<(u32, u32), Ended> {
         self.call(&frames::register(blocks), frames::registered)
