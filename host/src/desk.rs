@@ -3,9 +3,9 @@
 
 use crate::clock;
 use crate::config::Config;
-use crate::frames::{Answer, Changed, Kind, Request, BLOCK};
-use crate::limits::{Failures, Forms, Source};
-use crate::pipe::{Core, Ended};
+use crate::frames::{self, Answer, Changed, Kind, Request, BLOCK};
+use crate::limits::{Failures, Forms, NoForm, Source};
+use crate::pipe::{self, Core, Ended};
 use crate::store::Store;
 use crate::users;
 use std::borrow::Cow;
@@ -17,6 +17,8 @@ use std::path::PathBuf;
 const TABLE: usize = 128 * BLOCK;
 /// A target that is none: the core answers 404 and moves the table's clock.
 const NOWHERE: &str = "/";
+/// Calls that are written to the core before the first of their answers is read. A pipe has room for all of them.
+const AHEAD: usize = 8;
 
 /// A request as it waits for its turn.
 #[derive(Debug)]
@@ -39,6 +41,10 @@ impl Asked {
         self.target.split('?').next().unwrap_or_default()
     }
 
+    fn request(&self) -> Request<'_> {
+        Request { post: self.post, target: self.target.as_bytes(), body: &self.body, cookie: self.cookie.as_bytes() }
+    }
+
     /// A sign-in with a password: its turn has the password's check, which takes long on purpose.
     pub fn is_sign_in(&self) -> bool {
         self.post && self.path() == "/cas/login"
@@ -49,10 +55,28 @@ impl Asked {
         !self.cookie.is_empty() && (self.is_sign_in() || !self.post && self.path() == "/cas/logout")
     }
 
+    /// A call that may open a form, with nothing posted: a page for who has no session, or is to show a password again.
+    fn may_open_form(&self) -> bool {
+        !self.post && self.path() == "/cas/login"
+    }
+
     /// The login ticket of a sign-in's form, read as the core reads it: the field's name stands as it is and not encoded.
     fn posted_ticket(&self) -> Option<Cow<'_, str>> {
         let mut pieces = self.body.split(|byte| *byte == b'&').filter(|piece| self.is_sign_in() && piece.starts_with(b"lt="));
         form_urlencoded::parse(pieces.next()?).next().map(|(_, ticket)| ticket)
+    }
+}
+
+/// What a turn is for.
+#[derive(Debug)]
+pub enum Work {
+    Request(Asked),
+    Finish { serial: u32, ok: bool },
+}
+
+impl Work {
+    pub fn is_sign_in(&self) -> bool {
+        matches!(self, Work::Request(asked) if asked.is_sign_in())
     }
 }
 
@@ -67,13 +91,10 @@ pub struct SignOff {
 #[derive(Debug)]
 pub enum Outcome {
     /// The core's answer, the user whom it names, and whom to tell of sign-off.
-    Answered {
-        answer: Answer,
-        user: Option<String>,
-        sign_offs: Vec<SignOff>,
-    },
-    /// No call was made, or it was undone: the address has to wait for so many seconds.
-    TooManyForms(u64),
+    Answered { answer: Answer, user: Option<String>, sign_offs: Vec<SignOff> },
+    /// The call was undone, for there is no form for this address.
+    NoForm(NoForm),
+    /// No call was made: the address has to wait for so many seconds.
     TooManyFailures(u64),
     /// The users cannot be read, so no call was made.
     NoUsers(String),
@@ -202,33 +223,87 @@ impl Desk {
         clock::jump(now, clock::of_table(&self.table)).map_or(Ok(now), |wrong| Err(Fault::Stop(wrong)))
     }
 
-    pub fn finish(&mut self, serial: u32, ok: bool) -> Result<Outcome, Fault> {
+    /// How many of these turns, from the first on, may go ahead of each other's answers: each is one call, with nothing to ask before it and
+    /// nothing to undo after it.
+    pub fn ahead<'a>(&self, works: impl Iterator<Item = &'a Work>) -> usize {
+        let (now, mut forms) = (clock::now(), Vec::new());
+        let goes = |work: &&Work| match work {
+            Work::Finish { .. } => true,
+            Work::Request(asked) if asked.is_sign_in() || asked.may_end_session() => false,
+            Work::Request(asked) => {
+                let room = !asked.may_open_form() || self.forms.room(asked.source, None, &forms, now).is_ok();
+                forms.extend(asked.may_open_form().then_some(asked.source));
+                room
+            }
+        };
+        works.take(AHEAD).take_while(goes).count()
+    }
+
+    /// Makes turns that go ahead: the calls are written, and then their answers are read and laid down one after the other. Gives the outcomes up
+    /// to a fault, which the next turn meets.
+    pub fn together<'a>(&mut self, works: impl Iterator<Item = &'a Work> + Clone) -> Vec<Outcome> {
+        let mut made = Vec::new();
+        if let Err(Fault::Core(why)) = self.make_together(works, &mut made) {
+            self.core.fail(Ended(why));
+        }
+        made
+    }
+
+    fn make_together<'a>(&mut self, works: impl Iterator<Item = &'a Work> + Clone, made: &mut Vec<Outcome>) -> Result<(), Fault> {
+        let time = self.time()?;
+        let mut calls = Vec::new();
+        for work in works.clone() {
+            calls.extend(match work {
+                Work::Request(asked) => frames::answer(&asked.request(), time, false, &pipe::random()?),
+                Work::Finish { serial, ok } => frames::finish(*serial, *ok, time),
+            });
+        }
+        self.core.write(&calls)?;
+        for work in works {
+            let answer = self.core.read(frames::answered)?;
+            self.lay(&answer.changed)?;
+            if let (Work::Request(asked), Some(ticket)) = (work, opened_ticket(&answer)) {
+                self.forms.opened(asked.source, ticket, time);
+            }
+            made.push(Outcome::Answered { user: named_user(&answer), answer, sign_offs: Vec::new() });
+        }
+        Ok(())
+    }
+
+    /// Makes a turn by itself, whatever it takes.
+    pub fn alone(&mut self, work: &Work) -> Result<Outcome, Fault> {
+        match work {
+            Work::Request(asked) => self.request(asked),
+            Work::Finish { serial, ok } => self.finish(*serial, *ok),
+        }
+    }
+
+    fn finish(&mut self, serial: u32, ok: bool) -> Result<Outcome, Fault> {
         let time = self.time()?;
         let answer = self.core.finish(serial, ok, time)?;
         self.lay(&answer.changed)?;
         Ok(Outcome::Answered { user: named_user(&answer), answer, sign_offs: Vec::new() })
     }
 
-    pub fn request(&mut self, asked: &Asked) -> Result<Outcome, Fault> {
+    fn request(&mut self, asked: &Asked) -> Result<Outcome, Fault> {
         let time = self.time()?;
         let signs_in = match self.credentials(asked, time)? {
             Ok(signs_in) => signs_in,
             Err(outcome) => return Ok(outcome),
         };
         let visits = self.visits(asked, time)?;
-        let request = Request { post: asked.post, target: asked.target.as_bytes(), body: &asked.body, cookie: asked.cookie.as_bytes() };
-        let answer = self.core.answer(&request, time, signs_in.is_some())?;
-        if let Some(wait) = self.beyond_forms(asked, &answer, time)? {
-            return Ok(Outcome::TooManyForms(wait));
+        let answer = self.core.answer(&asked.request(), time, signs_in.is_some())?;
+        if let Some(none) = self.beyond_forms(asked, &answer, time)? {
+            return Ok(Outcome::NoForm(none));
         }
         self.lay(&answer.changed)?;
         let ended = answer.cookie_cleared || !answer.cookie.is_empty();
         let accepted = answer.refusal == 0 && (answer.status == 200 || answer.status == 303);
-        Ok(Outcome::Answered {
-            user: signs_in.filter(|_| accepted).or_else(|| named_user(&answer)),
-            sign_offs: if ended { visits } else { Vec::new() },
-            answer,
-        })
+        let user = signs_in.filter(|_| accepted);
+        if user.is_some() {
+            self.forms.signed_in(asked.source);
+        }
+        Ok(Outcome::Answered { user: user.or_else(|| named_user(&answer)), sign_offs: if ended { visits } else { Vec::new() }, answer })
     }
 
     /// The user whose password is right, `None` where this is no sign-in or not a right one; or how the turn ends without a call.
@@ -269,16 +344,17 @@ impl Desk {
         Ok(visits)
     }
 
-    /// Counts the form that an answer opens. Where its address has too many, the call is undone, before anything of it is laid over the table.
-    fn beyond_forms(&mut self, asked: &Asked, answer: &Answer, time: u64) -> Result<Option<u64>, Fault> {
+    /// Counts the form that an answer opens. Where its address gets none, the call is undone, before anything of it is laid over the table.
+    fn beyond_forms(&mut self, asked: &Asked, answer: &Answer, time: u64) -> Result<Option<NoForm>, Fault> {
         let posted = asked.posted_ticket();
         let ticket = opened_ticket(answer);
-        let wait = self.forms.wait(asked.source, posted.as_deref(), time);
-        if ticket.is_some() && wait > 0 {
-            return match self.core.load(&self.table)? {
-                0 => Ok(Some(wait)),
-                refusal => Err(Fault::Core(format!("it refuses its own table with {refusal}"))),
-            };
+        if ticket.is_some() {
+            if let Err(none) = self.forms.room(asked.source, posted.as_deref(), &[], time) {
+                return match self.core.load(&self.table)? {
+                    0 => Ok(Some(none)),
+                    refusal => Err(Fault::Core(format!("it refuses its own table with {refusal}"))),
+                };
+            }
         }
         // A malformed form spends nothing, and neither does a refused call.
         if answer.refusal == 0 && answer.status != 400 {

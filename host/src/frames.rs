@@ -207,7 +207,8 @@ pub fn form(frame: &[u8]) -> Option<Form> {
 }
 
 /// What answer (`A`) and finish (`N`) gave.
-pub fn answered(frame: &[u8], letter: u8) -> Option<Answer> {
+pub fn answered(frame: &[u8]) -> Option<Answer> {
+    let letter = *frame.first().filter(|letter| b"AN".contains(letter))?;
     let mut fields = Reader::new(frame, letter)?;
     let answer = Answer {
         refusal: fields.u32()?,
