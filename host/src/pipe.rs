@@ -13,6 +13,8 @@ const PATIENCE_MS: i32 = 30_000;
 const PROGRAM: &str = "pipe";
 const LOADER: &str = "ld-linux-x86-64.so.2";
 const EMULATOR: &str = "qemu-x86_64";
+/// A plain processor: for a newer one the C library fills memory by an instruction that the emulator takes a byte at a time.
+const EMULATED: [&str; 2] = ["-cpu", "qemu64"];
 
 /// The core has ended, or has said what is no answer: why.
 #[derive(Clone, Debug)]
@@ -40,7 +42,7 @@ impl Core {
         let emulator = folder.join(EMULATOR);
         let mut command = if emulator.exists() {
             let mut command = Command::new(emulator);
-            command.arg(folder.join(LOADER));
+            command.args(EMULATED).arg(folder.join(LOADER));
             command
         } else {
             Command::new(folder.join(LOADER))
