@@ -126,6 +126,8 @@ pub struct Desk {
     table: Vec<u8>,
     /// The blocks of it that are not stored yet.
     unstored: BTreeSet<u32>,
+    /// Turns that are begun.
+    under_way: usize,
     failures: Failures,
     forms: Forms,
     decoy: RandomState,
@@ -144,6 +146,7 @@ impl Desk {
             store,
             table: Vec::new(),
             unstored: BTreeSet::new(),
+            under_way: 0,
             failures: Failures::default(),
             forms: Forms::default(),
             decoy: RandomState::new(),
@@ -180,11 +183,12 @@ impl Desk {
         }
     }
 
-    /// Starts the core anew with the table that is stored; what was not stored is undone.
+    /// Starts the core anew with the table that is stored; what was not stored is undone, and what was begun is to be begun again.
     pub fn recover(&mut self) -> Result<(), String> {
         self.core = Core::start(&self.folder).map_err(|Ended(why)| format!("the core cannot be started: {why}"))?;
         self.core.register(&self.register).map_err(told)?;
         self.unstored.clear();
+        self.under_way = 0;
         let table = self.store.table()?.ok_or("the table is gone from the database")?;
         self.load(table)
     }
@@ -223,9 +227,16 @@ impl Desk {
         clock::jump(now, clock::of_table(&self.table)).map_or(Ok(now), |wrong| Err(Fault::Stop(wrong)))
     }
 
-    /// How many of these turns, from the first on, may go ahead of each other's answers: each is one call, with nothing to ask before it and
-    /// nothing to undo after it.
-    pub fn ahead<'a>(&self, works: impl Iterator<Item = &'a Work>) -> usize {
+    /// Begins turns, from the first on: calls that may go ahead of each other's answers are written to the core. Gives how many; none where the
+    /// first is to be made alone.
+    pub fn begin<'a>(&mut self, works: impl Iterator<Item = &'a Work> + Clone) -> usize {
+        let count = self.ahead(works.clone());
+        self.under_way = self.write_calls(works.take(count)).map_or(0, |()| count);
+        self.under_way
+    }
+
+    /// How many of these turns may go ahead: each is one call, with nothing to ask before it and nothing to undo after it.
+    fn ahead<'a>(&self, works: impl Iterator<Item = &'a Work>) -> usize {
         let (now, mut forms) = (clock::now(), Vec::new());
         let goes = |work: &&Work| match work {
             Work::Finish { .. } => true,
@@ -239,35 +250,41 @@ impl Desk {
         works.take(AHEAD).take_while(goes).count()
     }
 
-    /// Makes turns that go ahead: the calls are written, and then their answers are read and laid down one after the other. Gives the outcomes up
-    /// to a fault, which the next turn meets.
-    pub fn together<'a>(&mut self, works: impl Iterator<Item = &'a Work> + Clone) -> Vec<Outcome> {
-        let mut made = Vec::new();
-        if let Err(Fault::Core(why)) = self.make_together(works, &mut made) {
-            self.core.fail(Ended(why));
-        }
-        made
-    }
-
-    fn make_together<'a>(&mut self, works: impl Iterator<Item = &'a Work> + Clone, made: &mut Vec<Outcome>) -> Result<(), Fault> {
+    fn write_calls<'a>(&mut self, works: impl Iterator<Item = &'a Work>) -> Result<(), Fault> {
         let time = self.time()?;
         let mut calls = Vec::new();
-        for work in works.clone() {
+        for work in works {
             calls.extend(match work {
                 Work::Request(asked) => frames::answer(&asked.request(), time, false, &pipe::random()?),
                 Work::Finish { serial, ok } => frames::finish(*serial, *ok, time),
             });
         }
-        self.core.write(&calls)?;
-        for work in works {
-            let answer = self.core.read(frames::answered)?;
-            self.lay(&answer.changed)?;
-            if let (Work::Request(asked), Some(ticket)) = (work, opened_ticket(&answer)) {
-                self.forms.opened(asked.source, ticket, time);
+        Ok(self.core.write(&calls)?)
+    }
+
+    /// Ends the turns that were begun: their answers are read and laid down one after the other. Gives the outcomes up to a fault, which the
+    /// next turn meets.
+    pub fn end<'a>(&mut self, works: impl Iterator<Item = &'a Work>) -> Vec<Outcome> {
+        let mut made = Vec::new();
+        for work in works.take(std::mem::take(&mut self.under_way)) {
+            match self.ended(work) {
+                Ok(outcome) => made.push(outcome),
+                Err(why) => {
+                    self.core.fail(why);
+                    break;
+                }
             }
-            made.push(Outcome::Answered { user: named_user(&answer), answer, sign_offs: Vec::new() });
         }
-        Ok(())
+        made
+    }
+
+    fn ended(&mut self, work: &Work) -> Result<Outcome, Ended> {
+        let answer = self.core.read(frames::answered)?;
+        self.lay(&answer.changed)?;
+        if let (Work::Request(asked), Some(ticket)) = (work, opened_ticket(&answer)) {
+            self.forms.opened(asked.source, ticket, clock::now());
+        }
+        Ok(Outcome::Answered { user: named_user(&answer), answer, sign_offs: Vec::new() })
     }
 
     /// Makes a turn by itself, whatever it takes.

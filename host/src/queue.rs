@@ -90,13 +90,15 @@ fn turns(mut desk: Desk, mut jobs: mpsc::Receiver<Job>) -> Result<(), String> {
                 None => return Ok(()),
             }
         }
-        while waiting.len() < TOGETHER {
-            match jobs.try_recv() {
-                Ok(job) => line_up(job, &mut waiting, &mut sign_ins),
-                Err(TryRecvError::Empty | TryRecvError::Disconnected) => break,
+        line_up_others(&mut jobs, &mut waiting, &mut sign_ins);
+        while !waiting.is_empty() {
+            take_turns(&mut desk, &mut waiting, &mut batch)?;
+            // For as long as others come, what was made is stored while the core is at the next.
+            if sign_ins.is_empty() {
+                line_up_others(&mut jobs, &mut waiting, &mut sign_ins);
             }
         }
-        take_turns(&mut desk, &mut waiting, &mut batch)?;
+        send(&mut desk, &mut batch)?;
         if let Some(job) = sign_ins.pop_front() {
             let outcome = turn(&mut desk, &mut batch, &job.work)?;
             batch.push((job.reply, outcome));
@@ -105,6 +107,7 @@ fn turns(mut desk: Desk, mut jobs: mpsc::Receiver<Job>) -> Result<(), String> {
     }
 }
 
+/// Sign-ins stand in a line of their own.
 fn line_up(job: Job, waiting: &mut VecDeque<Job>, sign_ins: &mut VecDeque<Job>) {
     if job.work.is_sign_in() {
         sign_ins.push_back(job);
@@ -113,21 +116,31 @@ fn line_up(job: Job, waiting: &mut VecDeque<Job>, sign_ins: &mut VecDeque<Job>) 
     }
 }
 
-/// All that wait, those together that can be, and one transaction for them.
-fn take_turns(desk: &mut Desk, waiting: &mut VecDeque<Job>, batch: &mut Batch) -> Result<(), String> {
-    while !waiting.is_empty() {
-        let ahead = desk.ahead(waiting.iter().map(|job| &job.work));
-        let made = desk.together(waiting.iter().map(|job| &job.work).take(ahead));
-        if made.is_empty() {
-            if let Some(job) = waiting.pop_front() {
-                let outcome = turn(desk, batch, &job.work)?;
-                batch.push((job.reply, outcome));
-            }
+fn line_up_others(jobs: &mut mpsc::Receiver<Job>, waiting: &mut VecDeque<Job>, sign_ins: &mut VecDeque<Job>) {
+    while waiting.len() < TOGETHER {
+        match jobs.try_recv() {
+            Ok(job) => line_up(job, waiting, sign_ins),
+            Err(TryRecvError::Empty | TryRecvError::Disconnected) => break,
         }
-        let jobs = waiting.drain(..made.len());
-        batch.extend(jobs.map(|job| job.reply).zip(made));
     }
-    send(desk, batch)
+}
+
+/// The turns of the first that wait, together or one alone. Before the last of all that wait the others are stored and sent, while the core is at it.
+fn take_turns(desk: &mut Desk, waiting: &mut VecDeque<Job>, batch: &mut Batch) -> Result<(), String> {
+    let begun = desk.begin(waiting.iter().map(|job| &job.work));
+    if begun == waiting.len() || batch.len() >= TOGETHER {
+        send(desk, batch)?;
+    }
+    let made = desk.end(waiting.iter().map(|job| &job.work));
+    if made.is_empty() {
+        if let Some(job) = waiting.pop_front() {
+            let outcome = turn(desk, batch, &job.work)?;
+            batch.push((job.reply, outcome));
+        }
+    }
+    let jobs = waiting.drain(..made.len());
+    batch.extend(jobs.map(|job| job.reply).zip(made));
+    Ok(())
 }
 
 /// Makes a turn. Where the core ends in it, nothing of the turn is laid down, and it is made again with a new core, once.

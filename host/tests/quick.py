@@ -9,6 +9,7 @@ import sqlite3
 import socket
 import struct
 import subprocess
+import termios
 import threading
 import time
 import unittest
@@ -567,6 +568,11 @@ class Starting(unittest.TestCase):
         for prompt, line in zip((b'Password for ben: ', b'And again: '), typed):
             while not shown.endswith(prompt):
                 shown += os.read(terminal, 1_024)
+            # An operator types after the prompt; it stands there a moment before the terminal shows no more.
+            for _ in range(6_000):
+                if not termios.tcgetattr(terminal)[3] & termios.ECHO:
+                    break
+                time.sleep(0.01)
             os.write(terminal, line.encode() + b'\n')
         # A terminal whose other side is closed gives an error in place of an end.
         with contextlib.suppress(OSError):
