@@ -14,7 +14,8 @@ const REMEMBERED: usize = 4_096;
 const FORMS: usize = 32;
 const FORM_LIFE: u64 = 600;
 const KEPT: usize = 8;
-/// What an address may have is a third of what is left, so that alone it gets eight forms, and 29 addresses together do not get all.
+/// What an address may have is a third of what is left, so that alone it gets eight forms, or six of those that are not kept, and four addresses
+/// together leave some. Ten or so can take all that are not kept, one by one.
 const FORM_PARTS: usize = 3;
 /// Addresses that are known at most.
 const KNOWN: usize = 256;
