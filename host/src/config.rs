@@ -1,12 +1,14 @@
 //! The configuration, a TOML file. A wrong one is refused with the line and the reason; paths in it are relative to its own folder. What the
 //! register rules say of panels is the core's to judge.
 
-use crate::register;
 use serde::Deserialize;
 use std::fs;
 use std::net::{IpAddr, SocketAddr};
 use std::path::{Path, PathBuf};
 use toml::Spanned;
+
+/// The most panels that a register has.
+const PANELS: usize = 16;
 
 /// The file as it is written.
 #[derive(Deserialize)]
@@ -86,14 +88,9 @@ pub struct Config {
 }
 
 impl Config {
-    /// The blocks of the register, for the core to judge.
-    pub fn register(&self) -> Vec<u8> {
-        self.panels.iter().flat_map(|panel| register::block(&panel.service, &panel.callback)).collect()
-    }
-
     /// What to say where the core finds fault with the register, at this block or at one that it does not tell.
-    pub fn register_fault(&self, block: Option<u32>) -> String {
-        let panel = block.and_then(|block| self.panels.get(block as usize));
+    pub fn register_fault(&self, block: Option<usize>) -> String {
+        let panel = block.and_then(|block| self.panels.get(block));
         let place = panel.map_or("one of the panels", |panel| &panel.place);
         format!(
             "{place}: the core refuses this panel (refusal 3): a service has 1 to 200 printable ASCII characters without space and #, \
@@ -120,17 +117,17 @@ fn parse(text: &str, path: &Path, core: Option<PathBuf>) -> Result<Config, Strin
         return Err(format!("{}: without [tls] only a loopback address is taken", place(file.listen.start())));
     }
     let forwarded_from = file.forwarded_from.iter().map(|from| address(from, "an address")).collect::<Result<_, _>>();
-    let panels = file.panel.iter().map(panel).map(|made| {
-        let (at, service, callback) = made?;
-        Ok(Panel { service, callback, place: place(at) })
+    let panels = file.panel.iter().map(|panel| Panel {
+        service: panel.service.get_ref().clone(),
+        callback: panel.callback.as_ref().map(|callback| callback.get_ref().clone()).unwrap_or_default(),
+        place: place(panel.service.start()),
     });
-    let panels: Result<Vec<Panel>, (usize, String)> = panels.collect();
-    let panels = panels.map_err(|(at, reason)| format!("{}: {reason}", place(at)))?;
+    let panels: Vec<Panel> = panels.collect();
     if panels.is_empty() {
         return Err(format!("{}: there is no [[panel]], so nobody could be signed in to anything", path.display()));
     }
-    if let Some(beyond) = file.panel.get(register::PANELS) {
-        return Err(format!("{}: this panel is beyond the {} that a register has", place(beyond.service.start()), register::PANELS));
+    if let Some(beyond) = file.panel.get(PANELS) {
+        return Err(format!("{}: this panel is beyond the {} that a register has", place(beyond.service.start()), PANELS));
     }
     Ok(Config {
         listen,
@@ -163,18 +160,6 @@ fn address<T: std::str::FromStr>(text: &Spanned<String>, what: &str) -> Result<T
     text.get_ref().parse().map_err(|_| (text.start(), format!("\"{}\" is not {what}", text.get_ref())))
 }
 
-/// Where a panel stands, its service and its callback, if a block has room for them.
-fn panel(file: &PanelFile) -> Result<(usize, String, String), (usize, String)> {
-    let callback = file.callback.as_ref();
-    for text in callback.into_iter().chain([&file.service]) {
-        if text.get_ref().len() > register::LONGEST {
-            return Err((text.start(), format!("it is longer than {} bytes", register::LONGEST)));
-        }
-    }
-    let callback = callback.map(|text| text.get_ref().clone()).unwrap_or_default();
-    Ok((file.service.start(), file.service.get_ref().clone(), callback))
-}
-
 #[cfg(test)]
 mod tests {
     use super::*;
@@ -191,7 +176,7 @@ mod tests {
         assert_eq!(config.data.path, Path::new("/etc/data"));
         assert_eq!(config.users.path, Path::new("/etc/users"));
         assert_eq!(config.core.path, Path::new("/usr/lib/core"));
-        assert_eq!(config.register().len(), 512);
+        assert_eq!((config.panels.len(), config.panels[0].callback.as_str()), (1, ""));
     }
 
     #[test]
@@ -205,7 +190,6 @@ mod tests {
         line(2, &GOOD.replace("data = ", "data "));
         line(2, &GOOD.replace("data = \"data\"", "data = 5"));
         line(3, &GOOD.replace("users =", "user ="));
-        line(5, &GOOD.replace("gate.lan", &"g".repeat(200)));
         line(6, &format!("{GOOD}lamp = 1\n"));
         line(37, &format!("{GOOD}{}", "[[panel]]\nservice = \"https://lamp.lan/\"\n".repeat(16)));
         assert!(refused("").contains("listen"));

@@ -3,9 +3,9 @@
 
 use crate::clock;
 use crate::config::Config;
-use crate::frames::{Answer, Changed, Kind, Request, BLOCK};
-use crate::limits::{Failures, Forms, Source};
-use crate::pipe::{Core, Ended};
+use crate::frames::{self, Answer, Changed, Kind, Request, BLOCK};
+use crate::limits::{Failures, Forms, NoForm, Source};
+use crate::pipe::{self, Core, Ended};
 use crate::store::Store;
 use crate::users;
 use std::borrow::Cow;
@@ -17,6 +17,8 @@ use std::path::PathBuf;
 const TABLE: usize = 128 * BLOCK;
 /// A target that is none: the core answers 404 and moves the table's clock.
 const NOWHERE: &str = "/";
+/// Calls that are written to the core before the first of their answers is read. A pipe has room for all of them.
+const AHEAD: usize = 8;
 
 /// A request as it waits for its turn.
 #[derive(Debug)]
@@ -39,6 +41,10 @@ impl Asked {
         self.target.split('?').next().unwrap_or_default()
     }
 
+    fn request(&self) -> Request<'_> {
+        Request { post: self.post, target: self.target.as_bytes(), body: &self.body, cookie: self.cookie.as_bytes() }
+    }
+
     /// A sign-in with a password: its turn has the password's check, which takes long on purpose.
     pub fn is_sign_in(&self) -> bool {
         self.post && self.path() == "/cas/login"
@@ -49,10 +55,28 @@ impl Asked {
         !self.cookie.is_empty() && (self.is_sign_in() || !self.post && self.path() == "/cas/logout")
     }
 
+    /// A call that may open a form, with nothing posted: a page for who has no session, or is to show a password again.
+    fn may_open_form(&self) -> bool {
+        !self.post && self.path() == "/cas/login"
+    }
+
     /// The login ticket of a sign-in's form, read as the core reads it: the field's name stands as it is and not encoded.
     fn posted_ticket(&self) -> Option<Cow<'_, str>> {
         let mut pieces = self.body.split(|byte| *byte == b'&').filter(|piece| self.is_sign_in() && piece.starts_with(b"lt="));
         form_urlencoded::parse(pieces.next()?).next().map(|(_, ticket)| ticket)
+    }
+}
+
+/// What a turn is for.
+#[derive(Debug)]
+pub enum Work {
+    Request(Asked),
+    Finish { serial: u32, ok: bool },
+}
+
+impl Work {
+    pub fn is_sign_in(&self) -> bool {
+        matches!(self, Work::Request(asked) if asked.is_sign_in())
     }
 }
 
@@ -67,13 +91,10 @@ pub struct SignOff {
 #[derive(Debug)]
 pub enum Outcome {
     /// The core's answer, the user whom it names, and whom to tell of sign-off.
-    Answered {
-        answer: Answer,
-        user: Option<String>,
-        sign_offs: Vec<SignOff>,
-    },
-    /// No call was made, or it was undone: the address has to wait for so many seconds.
-    TooManyForms(u64),
+    Answered { answer: Answer, user: Option<String>, sign_offs: Vec<SignOff> },
+    /// The call was undone, for there is no form for this address.
+    NoForm(NoForm),
+    /// No call was made: the address has to wait for so many seconds.
     TooManyFailures(u64),
     /// The users cannot be read, so no call was made.
     NoUsers(String),
@@ -105,6 +126,8 @@ pub struct Desk {
     table: Vec<u8>,
     /// The blocks of it that are not stored yet.
     unstored: BTreeSet<u32>,
+    /// Turns that are begun.
+    under_way: usize,
     failures: Failures,
     forms: Forms,
     decoy: RandomState,
@@ -114,15 +137,16 @@ impl Desk {
     /// The core with its register and its table, a new one where there is none yet. `clock_is_right` lets a jump of the clock through.
     pub fn open(config: &Config, clock_is_right: bool) -> Result<Desk, String> {
         let store = Store::open(&config.data.path)?;
-        let core = started(config)?;
+        let (core, register) = started(config)?;
         let mut desk = Desk {
             folder: config.core.path.clone(),
-            register: config.register(),
+            register,
             users: config.users.path.clone(),
             core,
             store,
             table: Vec::new(),
             unstored: BTreeSet::new(),
+            under_way: 0,
             failures: Failures::default(),
             forms: Forms::default(),
             decoy: RandomState::new(),
@@ -159,11 +183,12 @@ impl Desk {
         }
     }
 
-    /// Starts the core anew with the table that is stored; what was not stored is undone.
+    /// Starts the core anew with the table that is stored; what was not stored is undone, and what was begun is to be begun again.
     pub fn recover(&mut self) -> Result<(), String> {
         self.core = Core::start(&self.folder).map_err(|Ended(why)| format!("the core cannot be started: {why}"))?;
         self.core.register(&self.register).map_err(told)?;
         self.unstored.clear();
+        self.under_way = 0;
         let table = self.store.table()?.ok_or("the table is gone from the database")?;
         self.load(table)
     }
@@ -202,33 +227,100 @@ impl Desk {
         clock::jump(now, clock::of_table(&self.table)).map_or(Ok(now), |wrong| Err(Fault::Stop(wrong)))
     }
 
-    pub fn finish(&mut self, serial: u32, ok: bool) -> Result<Outcome, Fault> {
+    /// Begins turns, from the first on: calls that may go ahead of each other's answers are written to the core. Gives how many; none where the
+    /// first is to be made alone.
+    pub fn begin<'a>(&mut self, works: impl Iterator<Item = &'a Work> + Clone) -> usize {
+        let count = self.ahead(works.clone());
+        self.under_way = self.write_calls(works.take(count)).map_or(0, |()| count);
+        self.under_way
+    }
+
+    /// How many of these turns may go ahead: each is one call, with nothing to ask before it and nothing to undo after it.
+    fn ahead<'a>(&self, works: impl Iterator<Item = &'a Work>) -> usize {
+        let (now, mut forms) = (clock::now(), Vec::new());
+        let goes = |work: &&Work| match work {
+            Work::Finish { .. } => true,
+            Work::Request(asked) if asked.is_sign_in() || asked.may_end_session() => false,
+            Work::Request(asked) => {
+                let room = !asked.may_open_form() || self.forms.room(asked.source, None, &forms, now).is_ok();
+                forms.extend(asked.may_open_form().then_some(asked.source));
+                room
+            }
+        };
+        works.take(AHEAD).take_while(goes).count()
+    }
+
+    fn write_calls<'a>(&mut self, works: impl Iterator<Item = &'a Work>) -> Result<(), Fault> {
+        let time = self.time()?;
+        let mut calls = Vec::new();
+        for work in works {
+            calls.extend(match work {
+                Work::Request(asked) => frames::answer(&asked.request(), time, false, &pipe::random()?),
+                Work::Finish { serial, ok } => frames::finish(*serial, *ok, time),
+            });
+        }
+        Ok(self.core.write(&calls)?)
+    }
+
+    /// Ends the turns that were begun: their answers are read and laid down one after the other. Gives the outcomes up to a fault, which the
+    /// next turn meets.
+    pub fn end<'a>(&mut self, works: impl Iterator<Item = &'a Work>) -> Vec<Outcome> {
+        let mut made = Vec::new();
+        for work in works.take(std::mem::take(&mut self.under_way)) {
+            match self.ended(work) {
+                Ok(outcome) => made.push(outcome),
+                Err(why) => {
+                    self.core.fail(why);
+                    break;
+                }
+            }
+        }
+        made
+    }
+
+    fn ended(&mut self, work: &Work) -> Result<Outcome, Ended> {
+        let answer = self.core.read(frames::answered)?;
+        self.lay(&answer.changed)?;
+        if let (Work::Request(asked), Some(ticket)) = (work, opened_ticket(&answer)) {
+            self.forms.opened(asked.source, ticket, clock::now());
+        }
+        Ok(Outcome::Answered { user: named_user(&answer), answer, sign_offs: Vec::new() })
+    }
+
+    /// Makes a turn by itself, whatever it takes.
+    pub fn alone(&mut self, work: &Work) -> Result<Outcome, Fault> {
+        match work {
+            Work::Request(asked) => self.request(asked),
+            Work::Finish { serial, ok } => self.finish(*serial, *ok),
+        }
+    }
+
+    fn finish(&mut self, serial: u32, ok: bool) -> Result<Outcome, Fault> {
         let time = self.time()?;
         let answer = self.core.finish(serial, ok, time)?;
         self.lay(&answer.changed)?;
         Ok(Outcome::Answered { user: named_user(&answer), answer, sign_offs: Vec::new() })
     }
 
-    pub fn request(&mut self, asked: &Asked) -> Result<Outcome, Fault> {
+    fn request(&mut self, asked: &Asked) -> Result<Outcome, Fault> {
         let time = self.time()?;
         let signs_in = match self.credentials(asked, time)? {
             Ok(signs_in) => signs_in,
             Err(outcome) => return Ok(outcome),
         };
         let visits = self.visits(asked, time)?;
-        let request = Request { post: asked.post, target: asked.target.as_bytes(), body: &asked.body, cookie: asked.cookie.as_bytes() };
-        let answer = self.core.answer(&request, time, signs_in.is_some())?;
-        if let Some(wait) = self.beyond_forms(asked, &answer, time)? {
-            return Ok(Outcome::TooManyForms(wait));
+        let answer = self.core.answer(&asked.request(), time, signs_in.is_some())?;
+        if let Some(none) = self.beyond_forms(asked, &answer, time)? {
+            return Ok(Outcome::NoForm(none));
         }
         self.lay(&answer.changed)?;
         let ended = answer.cookie_cleared || !answer.cookie.is_empty();
         let accepted = answer.refusal == 0 && (answer.status == 200 || answer.status == 303);
-        Ok(Outcome::Answered {
-            user: signs_in.filter(|_| accepted).or_else(|| named_user(&answer)),
-            sign_offs: if ended { visits } else { Vec::new() },
-            answer,
-        })
+        let user = signs_in.filter(|_| accepted);
+        if user.is_some() {
+            self.forms.signed_in(asked.source);
+        }
+        Ok(Outcome::Answered { user: user.or_else(|| named_user(&answer)), sign_offs: if ended { visits } else { Vec::new() }, answer })
     }
 
     /// The user whose password is right, `None` where this is no sign-in or not a right one; or how the turn ends without a call.
@@ -269,16 +361,17 @@ impl Desk {
         Ok(visits)
     }
 
-    /// Counts the form that an answer opens. Where its address has too many, the call is undone, before anything of it is laid over the table.
-    fn beyond_forms(&mut self, asked: &Asked, answer: &Answer, time: u64) -> Result<Option<u64>, Fault> {
+    /// Counts the form that an answer opens. Where its address gets none, the call is undone, before anything of it is laid over the table.
+    fn beyond_forms(&mut self, asked: &Asked, answer: &Answer, time: u64) -> Result<Option<NoForm>, Fault> {
         let posted = asked.posted_ticket();
         let ticket = opened_ticket(answer);
-        let wait = self.forms.wait(asked.source, posted.as_deref(), time);
-        if ticket.is_some() && wait > 0 {
-            return match self.core.load(&self.table)? {
-                0 => Ok(Some(wait)),
-                refusal => Err(Fault::Core(format!("it refuses its own table with {refusal}"))),
-            };
+        if ticket.is_some() {
+            if let Err(none) = self.forms.room(asked.source, posted.as_deref(), &[], time) {
+                return match self.core.load(&self.table)? {
+                    0 => Ok(Some(none)),
+                    refusal => Err(Fault::Core(format!("it refuses its own table with {refusal}"))),
+                };
+            }
         }
         // A malformed form spends nothing, and neither does a refused call.
         if answer.refusal == 0 && answer.status != 400 {
@@ -295,12 +388,20 @@ fn told(Ended(why): Ended) -> String {
     format!("the core: {why}")
 }
 
-/// The core, started, with the register of this configuration.
-pub fn started(config: &Config) -> Result<Core, String> {
+/// The core, started, with the register of this configuration, whose blocks it makes itself.
+fn started(config: &Config) -> Result<(Core, Vec<u8>), String> {
+    let ended = |Ended(why)| config.core.fault(why);
     let mut core = Core::start(&config.core.path).map_err(|Ended(why)| config.core.fault(format!("the core cannot be started: {why}")))?;
-    match core.register(&config.register()).map_err(|Ended(why)| config.core.fault(why))? {
-        (0, _) => Ok(core),
-        (_, block) => Err(config.register_fault(Some(block))),
+    let mut register = Vec::new();
+    for (number, panel) in config.panels.iter().enumerate() {
+        match core.panel(&panel.service, &panel.callback).map_err(ended)? {
+            (0, block) => register.extend(block),
+            _ => return Err(config.register_fault(Some(number))),
+        }
+    }
+    match core.register(&register).map_err(ended)? {
+        (0, _) => Ok((core, register)),
+        (_, block) => Err(config.register_fault(Some(block as usize))),
     }
 }
 
@@ -317,7 +418,7 @@ fn first_call(config: &Config, core: &mut Core, time: u64) -> Result<Vec<Changed
 
 /// What there is to say of core, register and table of a configuration. The calls that show it change nothing that is stored.
 pub fn check(config: &Config) -> Result<&'static str, String> {
-    let mut core = started(config)?;
+    let (mut core, _) = started(config)?;
     let (now, ended) = (clock::now(), |Ended(why)| config.core.fault(why));
     let store = Store::exists(&config.data.path).then(|| Store::open(&config.data.path)).transpose()?;
     let table = store.as_ref().map(Store::table).transpose()?.flatten();

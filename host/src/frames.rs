@@ -92,6 +92,10 @@ impl Writer {
     }
 }
 
+pub fn panel(service: &[u8], callback: &[u8]) -> Vec<u8> {
+    Writer::new(b'B').text(service).text(callback).done()
+}
+
 pub fn register(blocks: &[u8]) -> Vec<u8> {
     Writer::new(b'G').text(blocks).done()
 }
@@ -178,6 +182,11 @@ pub fn loaded(frame: &[u8]) -> Option<u32> {
     fields.end().map(|()| refusal)
 }
 
+/// The refusal of a panel and its block.
+pub fn panelled(frame: &[u8]) -> Option<(u32, Vec<u8>)> {
+    refused_or_text(frame, b'B')
+}
+
 /// The refusal of a register and the first block at fault.
 pub fn registered(frame: &[u8]) -> Option<(u32, u32)> {
     let mut fields = Reader::new(frame, b'G')?;
@@ -198,7 +207,8 @@ pub fn form(frame: &[u8]) -> Option<Form> {
 }
 
 /// What answer (`A`) and finish (`N`) gave.
-pub fn answered(frame: &[u8], letter: u8) -> Option<Answer> {
+pub fn answered(frame: &[u8]) -> Option<Answer> {
+    let letter = *frame.first().filter(|letter| b"AN".contains(letter))?;
     let mut fields = Reader::new(frame, letter)?;
     let answer = Answer {
         refusal: fields.u32()?,
@@ -224,7 +234,11 @@ pub fn answered(frame: &[u8], letter: u8) -> Option<Answer> {
 
 /// The refusal of a visit and what was told.
 pub fn visited(frame: &[u8]) -> Option<(u32, Vec<u8>)> {
-    let mut fields = Reader::new(frame, b'V')?;
+    refused_or_text(frame, b'V')
+}
+
+fn refused_or_text(frame: &[u8], letter: u8) -> Option<(u32, Vec<u8>)> {
+    let mut fields = Reader::new(frame, letter)?;
     let answer = (fields.u32()?, fields.text()?);
     fields.end().map(|()| answer)
 }

@@ -1,10 +1,11 @@
 //! The listening side: connections taken up to a limit, TLS, time-outs, and an end in which nobody is cut off in the middle of an answer.
 
+use crate::limits::{Place, Places};
 use crate::log;
 use crate::routes::Front;
 use hyper::server::conn::Http;
 use hyper::service::service_fn;
-use std::net::{IpAddr, SocketAddr};
+use std::net::IpAddr;
 use std::sync::{Arc, Mutex, PoisonError};
 use std::time::Duration;
 use tokio::io::{AsyncRead, AsyncWrite};
@@ -13,8 +14,10 @@ use tokio::sync::{watch, OwnedSemaphorePermit, Semaphore};
 use tokio::time::{sleep, sleep_until, timeout, Instant};
 use tokio_rustls::TlsAcceptor;
 
-/// Connections at a time. Beyond it the next waits until one ends, which it does when nothing is asked on it for the time of `IDLE`.
+/// Connections at a time. Beyond it the next waits until one ends, which it does when nothing is asked on it for the time of `IDLE`. One address
+/// has a third of what is left, so alone a quarter; a connection beyond that is closed at once.
 const CONNECTIONS: u32 = 2_048;
+const CONNECTION_PARTS: usize = 3;
 /// How long a TLS handshake may take, and a request's head.
 const HANDSHAKE: Duration = Duration::from_secs(10);
 const HEAD: Duration = Duration::from_secs(10);
@@ -27,6 +30,7 @@ const HEAD_LONGEST: usize = 32_768;
 /// Takes connections until `stop` says so, then waits for those that are open.
 pub async fn serve(listener: TcpListener, tls: Option<TlsAcceptor>, front: Arc<Front>, mut stop: watch::Receiver<bool>) {
     let places = Arc::new(Semaphore::new(CONNECTIONS as usize));
+    let shares = Places::new(CONNECTIONS as usize, CONNECTION_PARTS);
     loop {
         let place = tokio::select! {
             place = places.clone().acquire_owned() => place,
@@ -39,7 +43,12 @@ pub async fn serve(listener: TcpListener, tls: Option<TlsAcceptor>, front: Arc<F
         tokio::select! {
             taken = listener.accept() => match taken {
                 Ok((stream, peer)) => {
-                    tokio::spawn(connection(stream, peer, tls.clone(), front.clone(), stop.clone(), place));
+                    let peer = canonical(peer.ip());
+                    let share = shares.take(peer.into());
+                    // A proxy that is named has everybody's connections.
+                    if share.is_some() || front.forwarded_from.contains(&peer) {
+                        tokio::spawn(connection(stream, peer, tls.clone(), front.clone(), stop.clone(), (place, share)));
+                    }
                 }
                 Err(error) => {
                     log::line(format_args!("no connection taken: {error}"));
@@ -56,11 +65,11 @@ pub async fn serve(listener: TcpListener, tls: Option<TlsAcceptor>, front: Arc<F
 
 async fn connection(
     stream: TcpStream,
-    peer: SocketAddr,
+    peer: IpAddr,
     tls: Option<TlsAcceptor>,
     front: Arc<Front>,
     stop: watch::Receiver<bool>,
-    _place: OwnedSemaphorePermit,
+    _place: (OwnedSemaphorePermit, Option<Place>),
 ) {
     // Answers are small and go out at once.
     let _ = stream.set_nodelay(true);
@@ -75,7 +84,7 @@ async fn connection(
 }
 
 /// The requests of a connection. One that fails, or is sent too slowly, ends it.
-async fn requests<S>(stream: S, peer: SocketAddr, front: Arc<Front>, mut stop: watch::Receiver<bool>)
+async fn requests<S>(stream: S, peer: IpAddr, front: Arc<Front>, mut stop: watch::Receiver<bool>)
 where
     S: AsyncRead + AsyncWrite + Unpin + Send + 'static,
 {
@@ -83,7 +92,7 @@ where
     let asks = asked.clone();
     let service = service_fn(move |request| {
         *asks.lock().unwrap_or_else(PoisonError::into_inner) = Instant::now();
-        front.clone().handle(canonical(peer.ip()), request)
+        front.clone().handle(peer, request)
     });
     let connection =
         Http::new().http1_only(true).http1_header_read_timeout(HEAD).max_buf_size(HEAD_LONGEST).serve_connection(stream, service);

@@ -7,6 +7,6 @@ use std::time::SystemTime;
 
 pub fn line(what: impl Display) {
     let time = humantime::format_rfc3339_seconds(SystemTime::now());
-    // Nobody is left to tell where the log itself cannot be written.
-    let _ = writeln!(std::io::stderr(), "{time} {what}");
+    // In one write, so that lines of two threads do not mix. Nobody is left to tell where the log itself cannot be written.
+    let _ = std::io::stderr().write_all(format!("{time} {what}\n").as_bytes());
 }

@@ -15,7 +15,6 @@ mod page;
 mod pipe;
 mod process;
 mod queue;
-mod register;
 mod reply;
 mod routes;
 mod store;

@@ -13,9 +13,11 @@ const PATIENCE_MS: i32 = 30_000;
 const PROGRAM: &str = "pipe";
 const LOADER: &str = "ld-linux-x86-64.so.2";
 const EMULATOR: &str = "qemu-x86_64";
+/// A plain processor: for a newer one the C library fills memory by an instruction that the emulator takes a byte at a time.
+const EMULATED: [&str; 2] = ["-cpu", "qemu64"];
 
 /// The core has ended, or has said what is no answer: why.
-#[derive(Debug)]
+#[derive(Clone, Debug)]
 pub struct Ended(pub String);
 
 impl From<io::Error> for Ended {
@@ -24,10 +26,14 @@ impl From<io::Error> for Ended {
     }
 }
 
+/// A core at work. Once a call has failed every later one fails in the same way, so that no answer is taken for another call's.
 pub struct Core {
     child: Child,
     input: ChildStdin,
     output: ChildStdout,
+    /// What it has written and nobody has read yet.
+    unread: Vec<u8>,
+    failed: Option<Ended>,
 }
 
 impl Core {
@@ -36,7 +42,7 @@ impl Core {
         let emulator = folder.join(EMULATOR);
         let mut command = if emulator.exists() {
             let mut command = Command::new(emulator);
-            command.arg(folder.join(LOADER));
+            command.args(EMULATED).arg(folder.join(LOADER));
             command
         } else {
             Command::new(folder.join(LOADER))
@@ -45,28 +51,55 @@ impl Core {
         command.env_clear().stdin(Stdio::piped()).stdout(Stdio::piped()).stderr(Stdio::null());
         let mut child = command.spawn()?;
         match (child.stdin.take(), child.stdout.take()) {
-            (Some(input), Some(output)) => Ok(Core { child, input, output }),
+            (Some(input), Some(output)) => Ok(Core { child, input, output, unread: Vec::new(), failed: None }),
             _ => Err(Ended("it has no pipe".into())),
         }
     }
 
+    /// From here on every call fails.
+    pub fn fail(&mut self, why: Ended) -> Ended {
+        self.failed.get_or_insert(why).clone()
+    }
+
     /// One frame out and its answer's fields back.
     fn call<T>(&mut self, frame: &[u8], read: impl Fn(&[u8]) -> Option<T>) -> Result<T, Ended> {
-        self.input.write_all(frame)?;
-        let mut length = [0; 4];
-        self.read_exact(&mut length)?;
-        let length = u32::from_le_bytes(length) as usize;
+        self.write(frame)?;
+        self.read(read)
+    }
+
+    /// Frames out, without a wait for their answers. They are read in the same order; until then no more is written than the pipe has room for.
+    pub fn write(&mut self, frames: &[u8]) -> Result<(), Ended> {
+        if let Some(ended) = &self.failed {
+            return Err(ended.clone());
+        }
+        self.input.write_all(frames).map_err(|error| self.fail(error.into()))
+    }
+
+    /// The fields of the next answer.
+    pub fn read<T>(&mut self, read: impl Fn(&[u8]) -> Option<T>) -> Result<T, Ended> {
+        if let Some(ended) = &self.failed {
+            return Err(ended.clone());
+        }
+        self.next_answer(read).map_err(|why| self.fail(why))
+    }
+
+    fn next_answer<T>(&mut self, read: impl Fn(&[u8]) -> Option<T>) -> Result<T, Ended> {
+        self.fill(4)?;
+        let length = self.unread.iter().take(4).rev().fold(0, |length, byte| length << 8 | usize::from(*byte));
         if length > frames::LONGEST {
             return Err(Ended("its frame is too long".into()));
         }
-        let mut answer = vec![0; length];
-        self.read_exact(&mut answer)?;
-        read(&answer).ok_or_else(|| Ended(frames::reason(&answer).unwrap_or_else(|| "its frame is not an answer".into())))
+        self.fill(4 + length)?;
+        let answer = &self.unread[4..4 + length];
+        let fields = read(answer).ok_or_else(|| Ended(frames::reason(answer).unwrap_or_else(|| "its frame is not an answer".into())))?;
+        self.unread.drain(..4 + length);
+        Ok(fields)
     }
 
-    /// Fills the buffer, and does not wait for ever.
-    fn read_exact(&mut self, mut buffer: &mut [u8]) -> Result<(), Ended> {
-        while !buffer.is_empty() {
+    /// Reads until so many bytes are there, and does not wait for ever.
+    fn fill(&mut self, count: usize) -> Result<(), Ended> {
+        let mut part = [0; 16_384];
+        while self.unread.len() < count {
             let mut waiting = [PollFd::new(self.output.as_raw_fd(), PollFlags::POLLIN)];
             match poll(&mut waiting, PATIENCE_MS) {
                 Ok(0) => return Err(Ended("it does not answer".into())),
@@ -74,12 +107,17 @@ impl Core {
                 Err(nix::errno::Errno::EINTR) => continue,
                 Err(error) => return Err(Ended(error.to_string())),
             }
-            match self.output.read(buffer)? {
+            match self.output.read(&mut part)? {
                 0 => return Err(Ended("it has ended".into())),
-                count => buffer = &mut buffer[count..],
+                count => self.unread.extend(&part[..count]),
             }
         }
         Ok(())
+    }
+
+    /// The refusal of a panel and its register block.
+    pub fn panel(&mut self, service: &str, callback: &str) -> Result<(u32, Vec<u8>), Ended> {
+        self.call(&frames::panel(service.as_bytes(), callback.as_bytes()), frames::panelled)
     }
 
     /// The refusal of a register and the first block at fault.
@@ -101,11 +139,11 @@ impl Core {
     }
 
     pub fn answer(&mut self, request: &Request, time: u64, verdict: bool) -> Result<Answer, Ended> {
-        self.call(&frames::answer(request, time, verdict, &random()?), |frame| frames::answered(frame, b'A'))
+        self.call(&frames::answer(request, time, verdict, &random()?), frames::answered)
     }
 
     pub fn finish(&mut self, serial: u32, ok: bool, time: u64) -> Result<Answer, Ended> {
-        self.call(&frames::finish(serial, ok, time), |frame| frames::answered(frame, b'N'))
+        self.call(&frames::finish(serial, ok, time), frames::answered)
     }
 
     /// The refusal of a visit and what it tells.
@@ -123,7 +161,7 @@ impl Drop for Core {
 }
 
 /// The 48 random bytes of a call, fresh each time.
-fn random() -> Result<[u8; 48], Ended> {
+pub fn random() -> Result<[u8; 48], Ended> {
     let mut bytes = [0; 48];
     getrandom::getrandom(&mut bytes).map_err(|error| Ended(format!("the system gives no random bytes: {error}")))?;
     Ok(bytes)

@@ -142,9 +142,13 @@ impl Front {
                     self.replies.own(500, None, language)
                 }
             }
-            Ok(Outcome::TooManyForms(wait)) => {
+            Ok(Outcome::NoForm(none)) if none.own => {
                 note.push_str(" too many open forms");
-                self.replies.own(429, Some(wait), language)
+                self.replies.own(429, Some(none.wait), language)
+            }
+            Ok(Outcome::NoForm(none)) => {
+                note.push_str(" the last forms are kept");
+                self.replies.own(503, Some(none.wait), language)
             }
             Ok(Outcome::TooManyFailures(wait)) => {
                 note.push_str(" too many wrong passwords");

@@ -1,6 +1,8 @@
-"""Figures of the server beside those of a peer, by the same clients in the same run. Both speak plain HTTP on loopback and keep their tickets
-in SQLite. A round: every client signs in (form and POST), fetches tickets by its session, validates them, and signs off; each of the three
-phases is timed by itself, with all clients at it."""
+"""Figures of the server beside those of a peer, by the same load in the same run. Both speak plain HTTP on loopback and keep their tickets in
+SQLite. A round: eight users sign in (form and POST), fetch tickets by their sessions, the tickets are validated, and the users sign off; each of
+the three phases is timed by itself. Tickets and validations are asked by wrk over eight connections, which costs little beside the servers, and
+what it costs is told. An accepted ticket keeps its slot until its user signs off, so the validations of a round all meet a table with the
+same number of records; it is measured with few and with nearly all of the 127."""
 
 import http.client
 import os
@@ -19,19 +21,23 @@ from world import World, free_port
 
 SERVICE = 'https://gate.lan/'
 PASSWORD = 'barbed wire 4'
-CLIENTS, TICKETS = 8, 10
-TICK = os.sysconf('SC_CLK_TCK')
+USERS = 8
+TICKETS = (2, 14)
+LOAD = Path(__file__).with_name('load.lua')
 
 
-class Client:
-    """What both servers take: cookies, a hidden field or two in the form, a ticket in a redirect."""
+class User:
+    """A browser's sign-in and sign-off, as both servers take it: cookies, and a hidden field or two in the form."""
 
     def __init__(self, port, number):
         self.connection = http.client.HTTPConnection('127.0.0.1', port, timeout=120, source_address=(f'127.0.1.{number + 1}', 0))
         self.cookies = {}
 
+    def cookie(self):
+        return '; '.join(f'{name}={value}' for name, value in self.cookies.items())
+
     def ask(self, method, target, body=None):
-        headers = {'Cookie': '; '.join(f'{name}={value}' for name, value in self.cookies.items())} if self.cookies else {}
+        headers = {'Cookie': self.cookie()} if self.cookies else {}
         if body:
             headers['Content-Type'] = 'application/x-www-form-urlencoded'
         self.connection.request(method, target, body, headers)
@@ -54,26 +60,26 @@ class Client:
         response, text = self.ask('POST', '/cas/login', urllib.parse.urlencode(fields))
         assert response.status in (200, 302, 303), (response.status, text)
 
-    def ticket(self):
-        response, text = self.ask('GET', '/cas/login?' + urllib.parse.urlencode({'service': SERVICE}))
-        assert 'ticket=' in (response.headers['Location'] or ''), (response.status, text)
-        return response.headers['Location'].split('ticket=')[1]
-
-    def validate(self, ticket):
-        _, text = self.ask('GET', '/cas/serviceValidate?' + urllib.parse.urlencode({'service': SERVICE, 'ticket': ticket}))
-        assert '<cas:user>ann</cas:user>' in text, text
-
     def sign_off(self):
         self.ask('GET', '/cas/logout')
         self.cookies.clear()
 
 
-def processor_seconds(processes):
-    spent = 0
-    for process in processes:
-        fields = Path(f'/proc/{process}/stat').read_text().rpartition(')')[2].split()
-        spent += int(fields[11]) + int(fields[12])
-    return spent / TICK
+def burst(port, requests):
+    """Asks pairs of target and cookie, each once. Gives the seconds, wrk's own processor time, and status, Location and user of each answer."""
+    with tempfile.NamedTemporaryFile('w', suffix='.requests') as file:
+        file.writelines(f'{target}\t{cookie}\n' for target, cookie in requests)
+        file.flush()
+        words = ['wrk', '-t', '1', '-c', str(USERS), '-d', '600s', '-s', LOAD, f'http://127.0.0.1:{port}', '--', file.name]
+        lines = subprocess.run(words, check=True, capture_output=True, text=True).stdout.splitlines()
+    at = next(number for number, line in enumerate(lines) if re.match(r'[\d.e-]+ [\d.e-]+$', line))
+    seconds, own = map(float, lines[at].split())
+    return seconds, own, [line.split() for line in lines[at + 1:]]
+
+
+def processor_seconds(process):
+    """What the threads of a process have had of the processors, as the scheduler counts it, in nanoseconds."""
+    return sum(int(path.read_text().split()[0]) for path in Path(f'/proc/{process}/task').glob('*/schedstat')) / 1e9
 
 
 def memory(process, name='VmRSS'):
@@ -81,57 +87,82 @@ def memory(process, name='VmRSS'):
 
 
 class Phase:
-    def __init__(self):
-        self.calls, self.seconds, self.processor = 0, 0, 0
+    """Calls of one kind over all rounds: how many, in how many seconds, and the processor time of each part of the server and of the load."""
 
-    def run(self, works, processes, calls):
-        """All clients at once; gives what each of them made."""
-        made = [None] * len(works)
-        gate = threading.Barrier(len(works) + 1)
+    def __init__(self, parts):
+        self.parts, self.calls, self.seconds, self.client, self.processor = parts, 0, 0, 0, dict.fromkeys(parts, 0)
 
-        def work(number):
-            gate.wait()
-            made[number] = works[number]()
-
-        threads = [threading.Thread(target=work, args=(number,)) for number in range(len(works))]
-        for thread in threads:
-            thread.start()
-        before, start = processor_seconds(processes), time.monotonic()
-        gate.wait()
-        for thread in threads:
-            thread.join()
-        self.seconds += time.monotonic() - start
-        self.processor += processor_seconds(processes) - before
-        self.calls += calls
+    def run(self, calls, work):
+        """`work` gives the seconds that the calls took, the load's own processor time, and what was made."""
+        before = self.spent()
+        seconds, own, made = work()
+        for part, spent in self.spent().items():
+            self.processor[part] += spent - before[part]
+        self.calls, self.seconds, self.client = self.calls + calls, self.seconds + seconds, self.client + own
         return made
 
+    def spent(self):
+        return {part: sum(map(processor_seconds, processes)) for part, processes in self.parts.items()}
 
-def measure(port, processes, rounds):
-    clients = [Client(port, number) for number in range(CLIENTS)]
-    phases = {'sign-ins': Phase(), 'tickets': Phase(), 'validations': Phase()}
-    for _ in range(rounds):
-        phases['sign-ins'].run([client.sign_in for client in clients], processes, CLIENTS)
-        fetch = [lambda client=client: [client.ticket() for _ in range(TICKETS)] for client in clients]
-        tickets = phases['tickets'].run(fetch, processes, CLIENTS * TICKETS)
-        show = [lambda client=client, own=own: [client.validate(ticket) for ticket in own] for client, own in zip(clients, tickets)]
-        phases['validations'].run(show, processes, CLIENTS * TICKETS)
-        for client in clients:
-            client.sign_off()
+    def rate(self):
+        return self.calls / self.seconds
+
+    def cost(self):
+        return sum(self.processor.values()) / self.calls
+
+
+def all_at_once(works):
+    threads = [threading.Thread(target=work) for work in works]
+    start, own = time.monotonic(), time.process_time()
+    for thread in threads:
+        thread.start()
+    for thread in threads:
+        thread.join()
+    return time.monotonic() - start, time.process_time() - own, None
+
+
+def fetch(port, users, each):
+    query = urllib.parse.urlencode({'service': SERVICE})
+    seconds, own, answers = burst(port, [(f'/cas/login?{query}', user.cookie()) for _ in range(each) for user in users])
+    assert all('ticket=' in location for _, location, _ in answers), answers
+    return seconds, own, [location.split('ticket=')[1] for _, location, _ in answers]
+
+
+def validate(port, tickets):
+    queries = [urllib.parse.urlencode({'service': SERVICE, 'ticket': ticket}) for ticket in tickets]
+    seconds, own, answers = burst(port, [(f'/cas/serviceValidate?{query}', '') for query in queries])
+    assert all(user == 'ann' for _, _, user in answers), answers
+    return seconds, own, None
+
+
+def measure(port, parts, rounds):
+    users = [User(port, number) for number in range(USERS)]
+    phases = {'sign-ins': Phase(parts)}
+    for each in TICKETS:
+        records = f'{USERS * (each + 1)} records'
+        tickets, validations = phases[f'tickets, up to {records}'], phases[f'validations, at {records}'] = Phase(parts), Phase(parts)
+        for _ in range(rounds * max(TICKETS) // each // 2):
+            phases['sign-ins'].run(USERS, lambda: all_at_once([user.sign_in for user in users]))
+            made = tickets.run(USERS * each, lambda: fetch(port, users, each))
+            validations.run(USERS * each, lambda: validate(port, made))
+            for user in users:
+                user.sign_off()
     return phases
 
 
 def report(name, phases):
     print(f'{name}:')
     for what, phase in phases.items():
-        rate, cost = phase.calls / phase.seconds, 1_000 * phase.processor / phase.calls
-        print(f'  {what:12} {phase.calls:6} calls  {rate:8.1f} a second  {cost:8.2f} ms of processor time each', flush=True)
+        costs = ', '.join(f'{part} {1_000 * spent / phase.calls:.3f}' for part, spent in phase.processor.items())
+        print(f'  {what:27} {phase.calls:5} calls {phase.rate():8.1f} a second; ms of processor time a call: {costs}; '
+              f'the load itself {1_000 * phase.client / phase.calls:.3f}', flush=True)
 
 
 def pyhtirso(rounds):
     world = World([(SERVICE, None)], {'ann': PASSWORD}, tls=False).start()
     try:
         front, core = world.process.pid, world.core()
-        phases = measure(world.port, [front, core], rounds)
+        phases = measure(world.port, {'front': [front], 'core': [core]}, rounds)
         report('pyhtirso', phases)
         emulated = 'emulated ' if (PROGRAM_FOLDER / 'core' / 'qemu-x86_64').exists() else ''
         print(f'  resident: front {memory(front):.1f} MB (at most {memory(front, "VmHWM"):.1f}, in a password\'s check), '
@@ -197,7 +228,7 @@ def peer(rounds):
             server = subprocess.Popen([gunicorn, *words], cwd=folder, env=environment, stdout=log, stderr=log)
         try:
             workers = wait_for_workers(server.pid, port)
-            phases = measure(port, workers, rounds)
+            phases = measure(port, {'workers': workers}, rounds)
             report('django-cas-server', phases)
             print(f'  resident: {sum(memory(process) for process in [server.pid, *workers]):.1f} MB in {len(workers) + 1} processes')
             return phases
@@ -212,7 +243,7 @@ def peer(rounds):
 def wait_for_workers(parent, port):
     for _ in range(600):
         try:
-            Client(port, 0).ask('GET', '/cas/login')
+            User(port, 0).ask('GET', '/cas/login')
             break
         except OSError:
             time.sleep(0.1)
@@ -222,11 +253,12 @@ def wait_for_workers(parent, port):
 
 if __name__ == '__main__':
     rounds = int(sys.argv[1]) if len(sys.argv) > 1 else 20
-    print(f'{CLIENTS} clients, {rounds} rounds, {os.cpu_count()} cores, {os.uname().machine}', flush=True)
+    if not shutil.which('wrk'):
+        sys.exit('host/bench: wrk is not installed, which makes the load')
+    print(f'{USERS} users, {rounds} rounds, {os.cpu_count()} cores, {os.uname().machine}', flush=True)
     own = pyhtirso(rounds)
     other = peer(max(1, rounds // 4))
     if other:
         for what in own:
-            times = own[what].calls / own[what].seconds / (other[what].calls / other[what].seconds)
-            cheaper = other[what].processor / other[what].calls / (own[what].processor / own[what].calls)
+            times, cheaper = own[what].rate() / other[what].rate(), other[what].cost() / own[what].cost()
             print(f'{what}: {times:.1f} times the rate, {cheaper:.1f} times less processor time a call')

@@ -248,6 +248,7 @@ echo 'error=' . $error . ' lamp says: ' . $output;
 
 @unittest.skipUnless((MODULES / 'mod_auth_cas.so').exists(), 'libapache2-mod-auth-cas is not installed')
 @unittest.skipUnless(PHP and Path('/usr/share/php/CAS.php').exists(), 'libapache2-mod-php and php-cas are not installed')
+@unittest.skipUnless(all(next(Path('/usr/lib/php').glob(f'*/{name}.so'), None) for name in ('curl', 'dom')), 'php-curl and php-xml are not installed')
 @unittest.skipUnless(os.geteuid() == 0, 'Apache changes its user, which takes root')
 class Panels(unittest.TestCase):
     @classmethod

@@ -1,4 +1,5 @@
-"""What takes long, or needs more of the machine: kills at random moments under load, a full disk, many connections, many validations at once."""
+"""What takes long, or needs more of the machine: kills at random moments under load, a full disk, many connections, many validations at once, a
+full queue, a clock that jumps, and the time that a sign-in takes."""
 
 import contextlib
 import http.client
@@ -6,10 +7,13 @@ import os
 import random
 import resource
 import signal
+import socket
+import statistics
 import subprocess
 import threading
 import time
 import unittest
+from pathlib import Path
 
 from quick import at_once
 from world import PASSWORDS, Browser, World
@@ -17,6 +21,9 @@ from world import PASSWORDS, Browser, World
 GATE = 'https://gate.lan/'
 KILLS = 100
 WORKERS = 5
+# Calls that wait, those that are taken together, and some.
+MORE_THAN_WAIT = 256 + 64 + 30
+FAKETIME = next(Path('/usr/lib').glob('*/faketime/libfaketime.so.1'), None)
 
 
 class Hand(threading.Thread):
@@ -140,12 +147,29 @@ class Crowds(unittest.TestCase):
         resource.setrlimit(resource.RLIMIT_NOFILE, (min(most, 4_096), most))
         held = []
         for number in range(1_000):
-            connection = self.world.raw()
+            connection = self.world.raw(address=f'127.0.1.{number % 20 + 1}')
             connection.sendall([b'', b'GET /cas/lo', b'POST /cas/login HTTP/1.1\r\nContent-Length: 100\r\n\r\nusername='][number % 3])
             held.append(connection)
             if number % 100 == 99:
                 self.assertEqual(self.browser.sign_in('ann', GATE).status, 303)
                 self.assertEqual(self.browser.get('logout').status, 200)
+        for connection in held:
+            connection.close()
+
+    def test_one_address_does_not_take_all_connections(self):
+        """Its share is a quarter; a connection beyond it is closed at once."""
+        _, most = resource.getrlimit(resource.RLIMIT_NOFILE)
+        resource.setrlimit(resource.RLIMIT_NOFILE, (min(most, 4_096), most))
+        held = [self.world.raw(address='127.0.1.1') for _ in range(500)]
+        beyond = [socket.create_connection(('127.0.0.1', self.world.port), 60, ('127.0.1.1', 0)) for _ in range(20)]
+        closed = 0
+        for connection in beyond:
+            connection.settimeout(2)
+            with contextlib.suppress(TimeoutError):
+                closed += connection.recv(1) == b''
+        self.assertTrue(0 < closed < 20, closed)
+        self.assertEqual(self.browser.sign_in('ann', GATE).status, 303)
+        held += beyond
         for connection in held:
             connection.close()
 
@@ -184,6 +208,85 @@ class FullDisk(unittest.TestCase):
             self.assertEqual(again, 'no\n' if answer.status == 200 else 'yes\n')
         self.assertIn('calls are undone', world.log.read_text())
         self.assertEqual(browser.get('login', service=GATE).status, 303)
+
+
+class FullQueue(unittest.TestCase):
+    def test_who_finds_the_queue_full_is_told_and_the_others_are_answered(self):
+        """While the core is stopped everything waits."""
+        world = World([(GATE, None)], {'ann': PASSWORDS['ann']}, tls=False).start()
+        self.addCleanup(world.close)
+        asking = [world.raw(address=f'127.0.1.{number % 20 + 1}') for number in range(MORE_THAN_WAIT)]
+        core = world.core()
+        os.kill(core, signal.SIGSTOP)
+        try:
+            for connection in asking:
+                connection.sendall(b'GET /cas/validate HTTP/1.1\r\nHost: h\r\nConnection: close\r\n\r\n')
+            world.wait_log('queue full')
+        finally:
+            os.kill(core, signal.SIGCONT)
+        said = []
+        for connection in asking:
+            with connection, connection.makefile('rb') as answer:
+                said.append(answer.read().split(b' ')[1])
+        print(f'{said.count(b"200")} calls waited and were answered, {said.count(b"503")} found the queue full', flush=True)
+        self.assertEqual(set(said), {b'200', b'503'})
+        self.assertGreaterEqual(said.count(b'200'), 256)
+
+
+class Timing(unittest.TestCase):
+    def test_a_name_that_is_not_there_takes_as_long_as_one_that_is(self):
+        world = World([(GATE, None)], tls=False).start()
+        self.addCleanup(world.close)
+        took = {'ann': [], 'nobody': []}
+        for number in range(15):
+            browser = Browser(world, f'127.0.1.{number + 1}')
+            form = browser.get('login')
+            for name in 'ann', 'nobody', 'ann', 'nobody':
+                start = time.monotonic()
+                form = browser.post_login(username=name, password='guess', lt=form.lt)
+                took[name].append(time.monotonic() - start)
+                self.assertEqual(form.status, 401)
+            browser.close()
+        there, missing = (1_000 * statistics.median(times) for times in took.values())
+        print(f'a wrong password takes {there:.2f} ms (median of 30), a name that is not there {missing:.2f} ms', flush=True)
+        self.assertLess(max(there, missing), 1.5 * min(there, missing))
+
+
+@unittest.skipUnless(FAKETIME, 'faketime is not installed')
+class Clock(unittest.TestCase):
+    """The server under a clock that this test sets."""
+
+    def setUp(self):
+        environment = {'LD_PRELOAD': str(FAKETIME), 'FAKETIME_NO_CACHE': '1', 'FAKETIME_DONT_FAKE_MONOTONIC': '1'}
+        self.world = World([(GATE, None)], {'ann': PASSWORDS['ann']}, tls=False, environment=environment)
+        self.addCleanup(self.world.close)
+        self.setting = self.world.folder / 'clock'
+        self.world.environment['FAKETIME_TIMESTAMP_FILE'] = str(self.setting)
+        self.set('+0')
+        self.world.start()
+        self.browser = Browser(self.world)
+
+    def set(self, clock):
+        """As faketime reads it. It takes the place of the old file, so that no half of it is read."""
+        beside = self.setting.with_suffix('.new')
+        beside.write_text(clock + '\n')
+        beside.rename(self.setting)
+
+    def test_a_clock_that_jumps_stops_the_server_until_the_operator_says_it_is_right(self):
+        self.browser.sign_in('ann')
+        self.set('+20h')
+        self.assertEqual(self.browser.get('validate').body, 'no\n')
+        self.set('+3d')
+        with contextlib.suppress(OSError, http.client.HTTPException):
+            self.assertEqual(self.browser.get('validate').status, 503)
+        self.assertEqual(self.world.process.wait(60), 1)
+        self.assertRegex(self.world.log.read_text(), r"stopped: this machine's clock is 2 days beyond the table's.*pyhtirso clock-is-right")
+        status, said = self.world.run('serve')
+        self.assertEqual((status, 'beyond the table' in said), (78, True), said)
+        self.assertEqual(self.world.run('clock-is-right'), (0, "the table's clock is this machine's\n"))
+        self.world.start()
+        self.browser.close()
+        self.assertEqual(self.browser.sign_in('ann', GATE).status, 303)
 
 
 if __name__ == '__main__':

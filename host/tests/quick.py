@@ -1,11 +1,15 @@
 """The server as browsers and panels see it: the real program, TLS, SQLite and core. Nothing here depends on how fast the machine is."""
 
 import contextlib
+import os
+import pty
 import re
+import signal
 import sqlite3
 import socket
 import struct
 import subprocess
+import termios
 import threading
 import time
 import unittest
@@ -14,12 +18,14 @@ from pathlib import Path
 
 from world import PASSWORDS, PROGRAM, Browser, Panel, World
 
-LOGIN_LIMIT = 8
+# Open forms that an address gets from which nobody has signed in yet, and all such addresses together.
+STRANGER_FORMS, STRANGERS_FORMS = 6, 24
 FREE_FAILURES = 5
+SIGN_INS_OF_ONE = 8
 
 
 class Ranch(unittest.TestCase):
-    """One server for many tests, with a gate that proxies, a lamp and a siren, and gates whose callbacks fail in three ways."""
+    """One server for many tests, with a gate that proxies, a lamp and a siren, and gates whose callbacks fail in four ways."""
 
     @classmethod
     def setUpClass(cls):
@@ -33,6 +39,7 @@ class Ranch(unittest.TestCase):
             'wrong certificate': (f'{url}/one', f'{cls.stranger.url}/callback'),
             'redirect': (f'{url}/two', f'{url}/away'),
             'none listening': (f'{url}/three', 'https://localhost:1/callback'),
+            'a number where a name should be': (f'{url}/four', url.replace('localhost', '127.0.0.1') + '/callback'),
         }
         cls.world.write_config([(cls.gate, cls.callback), (cls.lamp, f'{url}/lampback?x=1'), (cls.siren, None), *cls.failing.values()])
         cls.world.start()
@@ -307,7 +314,7 @@ class Http(Ranch):
 class Limits(Ranch):
     def test_one_address_does_not_take_all_forms(self):
         greedy = Browser(self.world)
-        forms = [greedy.get('login') for _ in range(LOGIN_LIMIT)]
+        forms = [greedy.get('login') for _ in range(STRANGER_FORMS)]
         self.assertEqual({form.status for form in forms}, {200})
         for cookie in None, 'TGC-1-' + '0' * 32:
             greedy.cookie = cookie
@@ -329,6 +336,58 @@ class Limits(Ranch):
         self.assertEqual(greedy.get('login').status, 200)
         greedy.cookie = cookie
         greedy.get('logout')
+
+    def test_strangers_of_many_addresses_do_not_take_all_forms(self):
+        world = World([('https://gate.lan/', None)], {'ann': PASSWORDS['ann']}, tls=False).start()
+        self.addCleanup(world.close)
+        desk, new = Browser(world, '127.0.2.1'), Browser(world, '127.0.2.2')
+        self.assertEqual(desk.sign_in('ann').status, 200)
+        desk.get('logout')
+
+        def taken(addresses):
+            """How many forms each of these addresses gets."""
+            counts = []
+            for number in addresses:
+                stranger, count = Browser(world, f'127.0.1.{number}'), 0
+                while stranger.get('login').status == 200:
+                    count += 1
+                counts.append(count)
+            return counts
+
+        self.assertEqual(taken(range(1, 5)), [6, 5, 4, 3])
+        self.assertEqual(new.sign_in('ann').status, 200)
+        new.get('logout')
+        self.assertEqual(sum(taken(range(5, 45))) + 18, STRANGERS_FORMS)
+        answer = Browser(world, '127.0.1.250').get('login')
+        self.assertEqual((answer.status, 0 < int(answer.headers['Retry-After']) <= 600), (503, True))
+        world.wait_log('the last forms are kept')
+        for browser in desk, new:
+            wrong = browser.sign_in('ann', password='wrong')
+            self.assertEqual(wrong.status, 401)
+            self.assertEqual(browser.post_login(username='ann', password=PASSWORDS['ann'], lt=wrong.lt).status, 200)
+
+    def test_one_address_does_not_take_all_places_of_sign_ins(self):
+        """While the core is stopped everything waits, so it is known how much does."""
+        world = World([('https://gate.lan/', None)], {'ann': PASSWORDS['ann']}, tls=False).start()
+        self.addCleanup(world.close)
+        desk = Browser(world, '127.0.2.1')
+        form, said = desk.get('login'), []
+        flood = [Browser(world, '127.0.1.1') for _ in range(SIGN_INS_OF_ONE + 1)]
+        threads = [threading.Thread(target=lambda b=b: said.append(b.post_login(username='x', password='x', lt='x').status)) for b in flood]
+        threads.append(threading.Thread(
+            target=lambda: said.append(desk.post_login(username='ann', password=PASSWORDS['ann'], lt=form.lt).status)))
+        core = world.core()
+        os.kill(core, signal.SIGSTOP)
+        try:
+            for thread in threads[:-1]:
+                thread.start()
+            world.wait_log('queue full')
+            threads[-1].start()
+        finally:
+            os.kill(core, signal.SIGCONT)
+        for thread in threads:
+            thread.join()
+        self.assertEqual((said.count(503), said.count(200), said.count(401) + said.count(429)), (1, 1, SIGN_INS_OF_ONE))
 
     def test_wrong_passwords_of_one_address_are_slowed_down(self):
         guesser, form = Browser(self.world), None
@@ -468,7 +527,8 @@ class Starting(unittest.TestCase):
             (good.replace('"ca.pem"', '"none.pem"'), 'line 6: '),
             (good.replace('https://gate.lan/', 'https://gate.lan/#a'), 'refusal 3'),
             (good + '[[panel]]\nservice = "https://gate.lan/"\n', 'refusal 3'),
-            (good + 'callback = "http://gate.lan/"\n', 'refusal 3'),
+            (good + 'callback = "http://gate.lan/"\n', 'line 8: the core refuses this panel (refusal 3)'),
+            (good.replace('gate.lan', 'g' * 200), 'line 8: the core refuses this panel (refusal 3)'),
         ]
         for text, reason in cases:
             self.world.config.write_text(text)
@@ -498,6 +558,46 @@ class Starting(unittest.TestCase):
         log = self.world.log.read_text()
         self.assertRegex(log, r'(?m)Z 10\.1\.2\.3 GET /cas/validate 200 no$')
         self.assertRegex(log, r'(?m)Z 127\.0\.0\.9 GET /cas/validate 200 no$')
+
+    def at_a_terminal(self, *typed):
+        """Stores a password for ben as an operator does; gives the exit status and what the terminal showed."""
+        child, terminal = pty.fork()
+        if child == 0:
+            os.execv(PROGRAM, [PROGRAM, 'user', 'ben', '--config', self.world.config])
+        shown = b''
+        for prompt, line in zip((b'Password for ben: ', b'And again: '), typed):
+            while not shown.endswith(prompt):
+                shown += os.read(terminal, 1_024)
+            # An operator types after the prompt; it stands there a moment before the terminal shows no more.
+            for _ in range(6_000):
+                if not termios.tcgetattr(terminal)[3] & termios.ECHO:
+                    break
+                time.sleep(0.01)
+            os.write(terminal, line.encode() + b'\n')
+        # A terminal whose other side is closed gives an error in place of an end.
+        with contextlib.suppress(OSError):
+            while part := os.read(terminal, 1_024):
+                shown += part
+        os.close(terminal)
+        return os.waitstatus_to_exitcode(os.waitpid(child, 0)[1]), shown.decode()
+
+    def test_a_password_is_asked_for_twice_at_a_terminal_and_not_shown(self):
+        status, shown = self.at_a_terminal('portón 7', 'portón 8')
+        self.assertEqual((status, 'the two are not the same' in shown), (78, True), shown)
+        status, shown = self.at_a_terminal('portón 7', 'portón 7')
+        self.assertEqual((status, 'ben is stored in' in shown, 'port' in shown), (0, True, False), shown)
+        self.world.start()
+        self.assertEqual(self.browser.sign_in('ben', password='portón 7').status, 200)
+
+    @unittest.skipUnless(Path('/proc/net/if_inet6').exists() and ' lo\n' in Path('/proc/net/if_inet6').read_text(), 'this machine has no ::1')
+    def test_ipv6(self):
+        world = World([(self.service, None)], {'ann': PASSWORDS['ann']}, host='::1')
+        self.addCleanup(world.close)
+        world.start()
+        browser = Browser(world, '::1')
+        ticket = browser.sign_in('ann', self.service).ticket
+        self.assertEqual(browser.get('validate', ticket=ticket, service=self.service).body, 'yes\n')
+        self.assertRegex(world.log.read_text(), r'(?m)^\S+ ::1 GET /cas/validate 200 yes$')
 
     def test_a_password_is_stored_as_a_hash_and_other_lines_stay(self):
         users = self.world.folder / 'users'

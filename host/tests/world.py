@@ -43,7 +43,7 @@ class Certificates:
                      '-addext', 'basicConstraints=critical,CA:TRUE', '-keyout', f'{name}.key', '-out', f'{name}.pem')
 
     def leaf(self, name, by):
-        (self.folder / 'san').write_text('subjectAltName=DNS:localhost,IP:127.0.0.1\nbasicConstraints=CA:FALSE\n')
+        (self.folder / 'san').write_text('subjectAltName=DNS:localhost,IP:127.0.0.1,IP:::1\nbasicConstraints=CA:FALSE\n')
         self.openssl('req', '-new', '-newkey', 'ec', '-pkeyopt', 'ec_paramgen_curve:P-256', '-nodes', '-subj', '/CN=localhost',
                      '-keyout', f'{name}.key', '-out', f'{name}.csr')
         self.openssl('x509', '-req', '-in', f'{name}.csr', '-CA', f'{by}.pem', '-CAkey', f'{by}.key', '-CAcreateserial', '-days', '7',
@@ -194,13 +194,14 @@ class Browser:
 
 
 class World:
-    """A server with its folder. `panels` are pairs of service and callback."""
+    """A server with its folder. `panels` are pairs of service and callback, `environment` is what the server is started with beside its own."""
 
-    def __init__(self, panels, users=PASSWORDS, tls=True, folder=None, more=''):
+    def __init__(self, panels, users=PASSWORDS, tls=True, folder=None, more='', host='127.0.0.1', environment=()):
         self.kept = tempfile.TemporaryDirectory(prefix='pyhtirso-')
         self.folder = Path(folder or self.kept.name)
         self.certificates = Certificates(self.folder)
-        self.port, self.process, self.tls = free_port(), None, tls
+        self.port, self.process, self.tls, self.host = free_port(), None, tls, host
+        self.environment = {**os.environ, **dict(environment)}
         self.config = self.folder / 'ranch.toml'
         self.log = self.folder / 'log'
         self.write_config(panels, more)
@@ -209,7 +210,8 @@ class World:
             self.add_user(name, users[name])
 
     def write_config(self, panels, more=''):
-        lines = [f'listen = "127.0.0.1:{self.port}"', 'data = "data"', 'users = "users"', more]
+        listen = f'[{self.host}]' if ':' in self.host else self.host
+        lines = [f'listen = "{listen}:{self.port}"', 'data = "data"', 'users = "users"', more]
         if self.tls:
             lines += ['[tls]', 'cert = "good.pem"', 'key = "good.key"']
         lines += ['[trust]', 'ca = "ca.pem"']
@@ -222,13 +224,15 @@ class World:
 
     def run(self, *words):
         """Runs the program until it ends; gives its status and what it wrote."""
-        done = subprocess.run([PROGRAM, *words, '--config', self.config], capture_output=True, text=True, timeout=120)
+        words = [PROGRAM, *words, '--config', self.config]
+        done = subprocess.run(words, capture_output=True, text=True, timeout=120, env=self.environment)
         return done.returncode, done.stdout + done.stderr
 
     def start(self):
         before = self.log.read_text().count('listening on') if self.log.exists() else 0
         with open(self.log, 'a') as log:
-            self.process = subprocess.Popen([PROGRAM, 'serve', '--config', self.config], stderr=log, stdin=subprocess.DEVNULL)
+            words = [PROGRAM, 'serve', '--config', self.config]
+            self.process = subprocess.Popen(words, stderr=log, stdin=subprocess.DEVNULL, env=self.environment)
         while self.log.read_text().count('listening on') == before:
             assert self.process.poll() is None, self.log.read_text()
             time.sleep(0.02)
@@ -245,19 +249,27 @@ class World:
                 return int(process.parent.name)
         return None
 
+    def wait_log(self, text, count=1):
+        """Waits until the log has this so many times; as long as a very slow machine may take."""
+        for _ in range(3_000):
+            if self.log.read_text().count(text) >= count:
+                return
+            time.sleep(0.02)
+        raise AssertionError(self.log.read_text()[-2_000:])
+
     def stop(self, how=signal.SIGTERM):
         self.process.send_signal(how)
         return self.process.wait(60)
 
     def connect(self, address='127.0.0.1', timeout=120):
-        where = {'host': '127.0.0.1', 'port': self.port, 'timeout': timeout, 'source_address': (address, 0)}
+        where = {'host': self.host, 'port': self.port, 'timeout': timeout, 'source_address': (address, 0)}
         if self.tls:
             return http.client.HTTPSConnection(**where, context=self.certificates.client())
         return http.client.HTTPConnection(**where)
 
-    def raw(self, timeout=60):
+    def raw(self, timeout=60, address='127.0.0.1'):
         """A connection without HTTP on top."""
-        plain = socket.create_connection(('127.0.0.1', self.port), timeout)
+        plain = socket.create_connection((self.host, self.port), timeout, (address, 0))
         return self.certificates.client().wrap_socket(plain, server_hostname='localhost') if self.tls else plain
 
     def close(self):

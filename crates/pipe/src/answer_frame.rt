@@ -1,66 +1,13 @@
-// The frame of an answer: its fields and texts taken, the call made on the bytes that they name.
+// The frame of an answer: the call made, and what it changed told.
 use super::Held;
 use super::cut;
-use super::fields::byte;
-use super::fields::end_of;
-use super::fields::field;
-use super::fields::long;
-use super::fields::number;
-use super::fields::unfilled;
 use super::frame_out::reply_outcome;
-use protocol::Method;
+use lent::Asked;
+use lent::Ends;
+use lent::unfilled;
 ghost use Prim.Native.Nat.{_≤_};
 ghost use lib.ListN.{length};
 ghost use Rattle.changed.specs.Changes.{Told};
-
-// What the frame says before its texts.
-struct Asked {
-    post: bool,
-    time: u64,
-    verdict: bool,
-    out: u64,
-    cookie_out: u64,
-}
-
-fn asked_of(frame: &[u8]) -> Asked {
-    let post = byte(frame, 1) != 0;
-    let time = long(frame, 2);
-    let verdict = byte(frame, 10) != 0;
-    let out = number(frame, 11);
-    let cookie_out = number(frame, 15);
-    Asked {
-        post,
-        time,
-        verdict,
-        out,
-        cookie_out,
-    }
-}
-
-// Where each of the frame's texts ends.
-struct Ends {
-    target: u64,
-    body: u64,
-    cookie: u64,
-    random: u64,
-}
-
-fn ends_of(frame: &[u8]) -> Ends {
-    let target = end_of(frame, 19);
-    let body = end_of(frame, target);
-    let cookie = end_of(frame, body);
-    let random = end_of(frame, cookie);
-    Ends {
-        target,
-        body,
-        cookie,
-        random,
-    }
-}
-
-fn method_of(post: bool) -> Method {
-    if post { Method::Post } else { Method::Get }
-}
 
 pub fn answer(
     held: Held,
@@ -72,8 +19,8 @@ pub fn answer(
 ) -> Held
     requires { ⌜ length (now table) ≤ 65536 ⌝ }
 {
-    let asked = asked_of(frame);
-    let ends = ends_of(frame);
+    let asked = lent::asked_of(frame);
+    let ends = lent::ends_of(frame);
     if unfilled(frame, ends.random) | (16384 < asked.out) | (4096 < asked.cookie_out) {
         return cut(out);
     }
@@ -126,10 +73,8 @@ fn answer_sized(
         table,
         register,
         asked,
-        field(frame, 19, ends.target),
-        field(frame, ends.target, ends.body),
-        field(frame, ends.body, ends.cookie),
-        field(frame, ends.cookie, ends.random),
+        ends,
+        frame,
         &mut output[..o],
         &mut cookie_out[..c],
         out,
@@ -140,10 +85,8 @@ fn answer_call(
     table: &mut [u8],
     register: &[u8],
     asked: Asked,
-    target: &[u8],
-    body: &[u8],
-    cookie: &[u8],
-    random: &[u8],
+    ends: Ends,
+    frame: &[u8],
     output: &mut [u8],
     cookie_out: &mut [u8],
     out: &mut [u8; 131072],
@@ -152,19 +95,6 @@ fn answer_call(
     requires { ⌜ length (now «cookie_out») ≤ 4096 ⌝ }
     ensures { λ r. ⌜ r ≤ 20508 ⌝ }
 {
-    let method = method_of(asked.post);
-    let outcome = signon::answer(
-        table,
-        register,
-        method,
-        target,
-        body,
-        cookie,
-        asked.time,
-        random,
-        asked.verdict,
-        output,
-        cookie_out,
-    );
+    let outcome = lent::answer(table, register, asked, ends, frame, output, cookie_out);
     reply_outcome(out, b'A', outcome, output, cookie_out)
 }

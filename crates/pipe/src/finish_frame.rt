@@ -1,12 +1,12 @@
 // The frame of a callback's outcome: its fields taken, the call made.
 use super::Held;
 use super::cut;
-use super::fields::CUT;
-use super::fields::byte;
-use super::fields::long;
-use super::fields::number;
-use super::fields::unfilled;
 use super::frame_out::reply_outcome;
+use lent::CUT;
+use lent::byte;
+use lent::long;
+use lent::number;
+use lent::unfilled;
 ghost use Prim.Native.Nat.{_≤_};
 ghost use lib.ListN.{length};
 ghost use Rattle.changed.specs.Changes.{Told};

@@ -1,11 +1,11 @@
 // The frame of a form: its body and the sizes of the two buffers taken, the call made.
 use super::Held;
 use super::cut;
-use super::fields::end_of;
-use super::fields::field;
-use super::fields::number;
-use super::fields::unfilled;
 use super::frame_out::reply_form;
+use lent::end_of;
+use lent::field;
+use lent::number;
+use lent::unfilled;
 ghost use Prim.Native.Nat.{_≤_};
 ghost use lib.ListN.{length};
 

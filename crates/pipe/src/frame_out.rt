@@ -50,6 +50,13 @@ pub fn reply_fault(out: &mut [u8; 131072], refusal: u32, block: u64) -> usize {
     put_number(out, at, block)
 }
 
+pub fn reply_panel(out: &mut [u8; 131072], refusal: u32, block: &[u8]) -> usize
+    requires { ⌜ length (now block) ≤ 512 ⌝ }
+{
+    let at = put_refusal(out, b'B', refusal);
+    put_text(out, at, block)
+}
+
 pub fn reply_table(out: &mut [u8; 131072], table: &[u8]) -> usize
     requires { ⌜ length (now table) ≤ 65536 ⌝ }
 {

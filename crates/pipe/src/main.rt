@@ -3,6 +3,8 @@
 // and that many bytes.
 //
 //   in                                            out, behind the same letter
+//   B  bytes service, bytes callback              u32 refusal, bytes block
+//                                                 the register block of a panel, none where it is refused
 //   G  bytes                                      u32 refusal, u32 first block at fault
 //                                                 the register from here on
 //   L  bytes                                      u32 refusal
@@ -30,19 +32,20 @@
 //
 // Room: a frame of 131,072 bytes, a table of 65,536, a register of 8,704, an output of 16,384, any other lent buffer of 4,096.
 mod answer_frame;
-mod fields;
 mod finish_frame;
 mod form_frame;
 mod frame_out;
+mod panel_frame;
 mod table_frames;
 mod visit_frame;
 
 use answer_frame::answer;
-use fields::CUT;
-use fields::byte;
 use finish_frame::finish;
 use form_frame::read_form;
 use frame_out::reply_end;
+use lent::CUT;
+use lent::byte;
+use panel_frame::panel;
 use table_frames::check;
 use table_frames::format;
 use table_frames::load;
@@ -233,6 +236,7 @@ fn serve_table(
         b'T' => read_back(held, table, frame, out),
         b'C' => check(held, table, frame, out),
         b'R' => read_form(held, frame, out),
+        b'B' => panel(held, frame, out),
         b'V' => visit(held, table, frame, out),
         _ => unknown(out),
     }

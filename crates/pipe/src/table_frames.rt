@@ -1,15 +1,15 @@
 // The frames that load, format, check and read back the table, and the one that loads the register.
 use super::Held;
 use super::cut;
-use super::fields::byte;
-use super::fields::end_of;
-use super::fields::field;
-use super::fields::long;
-use super::fields::number;
-use super::fields::unfilled;
 use super::frame_out::put_refusal;
 use super::frame_out::reply_fault;
 use super::frame_out::reply_table;
+use lent::byte;
+use lent::end_of;
+use lent::field;
+use lent::long;
+use lent::number;
+use lent::unfilled;
 ghost use mathlib.Core.Path.{_≡_};
 ghost use Prim.Native.Nat.{_≤_};
 ghost use lib.ListN.{length};
@@ -98,7 +98,8 @@ fn format_told(table: &mut [u8], v: u8, time: u64, out: &mut [u8; 131072]) -> us
     changed::put_changed(b"", told, out, at)
 }
 
-fn told_after<'a>(refusal: u32, table: &'a [u8]) -> &'a [u8]
+// What a call made, if it was not refused.
+pub fn told_after<'a>(refusal: u32, table: &'a [u8]) -> &'a [u8]
     ensures { λ r. ⌜ length (now r) ≤ length (now (table .entry)) ⌝ }
 {
     if refusal == 0 {

@@ -1,13 +1,13 @@
 // The frame of a question for a visit: its fields and texts taken, the call made.
 use super::Held;
 use super::cut;
-use super::fields::CUT;
-use super::fields::end_of;
-use super::fields::field;
-use super::fields::long;
-use super::fields::number;
-use super::fields::unfilled;
 use super::frame_out::reply_visit;
+use lent::CUT;
+use lent::end_of;
+use lent::field;
+use lent::long;
+use lent::number;
+use lent::unfilled;
 ghost use Prim.Native.Nat.{_≤_};
 ghost use lib.ListN.{length};
 

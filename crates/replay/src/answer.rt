@@ -1,80 +1,41 @@
-// The frame of an answer: its fields and texts read, the call made on the bytes that they name.
+// The frame of an answer: gathered, the call made on the bytes that it names.
 use super::Held;
 use super::cut;
-use super::frame::read_after;
-use super::frame::read_byte;
-use super::frame::read_long;
-use super::frame::read_number;
+use super::frame::gather;
+use super::frame::gather_text;
 use super::line::say_outcome;
-use protocol::Method;
+use lent::Asked;
+use lent::Ends;
 
-// What the frame says before its texts; the size of the cookie output is CUT where any of it is cut.
-struct Asked {
-    post: bool,
-    time: u64,
-    verdict: bool,
-    out: u64,
-    cookie_out: u64,
-}
-
-fn read_asked() -> Asked {
-    let post = read_byte() != 0;
-    let time = read_long();
-    let verdict = read_byte() != 0;
-    let out = read_number();
-    let cookie_out = read_number();
-    Asked {
-        post,
-        time,
-        verdict,
-        out,
-        cookie_out,
-    }
-}
-
-// Where each of the frame's texts ends, one behind the other in one buffer.
-struct Ends {
-    target: u64,
-    body: u64,
-    cookie: u64,
-    random: u64,
-}
-
-fn read_texts(texts: &mut [u8]) -> Ends {
-    let target = read_after(texts, 0);
-    let body = read_after(texts, target);
-    let cookie = read_after(texts, body);
-    let random = read_after(texts, cookie);
-    Ends {
-        target,
-        body,
-        cookie,
-        random,
-    }
+// The frame behind its letter, put where its fields stand: where it ends, or more than it has room for where it is cut.
+fn gather_answer(frame: &mut [u8]) -> u64 {
+    let head = gather(frame, 1, 18);
+    let target = gather_text(frame, head);
+    let body = gather_text(frame, target);
+    let cookie = gather_text(frame, body);
+    gather_text(frame, cookie)
 }
 
 pub fn answer(held: Held, table: &mut [u8], register: &[u8]) -> Held {
-    let asked = read_asked();
-    if (16384 < asked.out) | (4096 < asked.cookie_out) {
-        return cut();
-    }
-    let mut texts = [0u8; 65536];
-    let ends = read_texts(&mut texts);
-    if 65536 < ends.random {
+    let mut frame = [0u8; 131072];
+    let end = gather_answer(&mut frame);
+    let asked = lent::asked_of(&frame);
+    let ends = lent::ends_of(&frame);
+    if lent::lacks(&frame, end) | (16384 < asked.out) | (4096 < asked.cookie_out) {
         return cut();
     }
     let n = lent::within(held.table, table);
-    answer_texts(
+    answer_sized(
         &mut table[..n],
         lent::part(register, 0, held.register),
         asked,
         ends,
-        &texts,
+        &frame,
     );
     held
 }
 
-fn answer_texts(table: &mut [u8], register: &[u8], asked: Asked, ends: Ends, texts: &[u8]) {
+fn answer_sized(table: &mut [u8], register: &[u8], asked: Asked, ends: Ends, frame: &[u8]) {
     let mut out = [0xEEu8; 16384];
     let mut cookie_out = [0xDDu8; 4096];
     let o = lent::within(asked.out, &out);
@@ -83,43 +44,22 @@ fn answer_texts(table: &mut [u8], register: &[u8], asked: Asked, ends: Ends, tex
         table,
         register,
         asked,
-        lent::part(texts, 0, ends.target),
-        lent::part(texts, ends.target, ends.body),
-        lent::part(texts, ends.body, ends.cookie),
-        lent::part(texts, ends.cookie, ends.random),
+        ends,
+        frame,
         &mut out[..o],
         &mut cookie_out[..c],
     );
-}
-
-fn method_of(post: bool) -> Method {
-    if post { Method::Post } else { Method::Get }
 }
 
 fn answer_call(
     table: &mut [u8],
     register: &[u8],
     asked: Asked,
-    target: &[u8],
-    body: &[u8],
-    cookie: &[u8],
-    random: &[u8],
+    ends: Ends,
+    frame: &[u8],
     out: &mut [u8],
     cookie_out: &mut [u8],
 ) {
-    let method = method_of(asked.post);
-    let outcome = signon::answer(
-        table,
-        register,
-        method,
-        target,
-        body,
-        cookie,
-        asked.time,
-        random,
-        asked.verdict,
-        out,
-        cookie_out,
-    );
+    let outcome = lent::answer(table, register, asked, ends, frame, out, cookie_out);
     say_outcome(b'A', outcome, out, cookie_out, table);
 }

@@ -1,8 +1,6 @@
 // The fields of a frame, read from standard input.
+use lent::CUT;
 ghost use Prim.Native.Nat.{_+_, _≤_, _<_};
-
-// What a reader answers where the input ends within the field, or the field is longer than its buffer.
-pub const CUT: u64 = 4294967296;
 
 pub fn wide(x: u8) -> u64
     ensures { λ r. ⌜ r < 256 ⌝ }
@@ -32,22 +30,17 @@ pub fn read_number() -> u64
     block::get(&b, 0, 4)
 }
 
-// A number of eight bytes, from its two halves.
-pub fn whole(low: u64, high: u64) -> u64 {
-    high % 4294967296 * 4294967296 + low % 4294967296
-}
-
 pub fn read_long() -> u64 {
     let low = read_number();
     let high = read_number();
-    whole(low, high)
+    lent::whole(low, high)
 }
 
-// A field of bytes, put at the start of buf: how many there are, or CUT.
-pub fn read_bytes(buf: &mut [u8]) -> u64
+// So many bytes, put at the start of buf: their number, or CUT where there is no room or the input ends.
+fn read_exactly(buf: &mut [u8], n: u64) -> u64
+    requires { ⌜ n ≤ 4294967296 ⌝ }
     ensures { λ r. ⌜ r ≤ 4294967296 ⌝ }
 {
-    let n = read_number();
     if lent::lacks(buf, n) {
         return CUT;
     }
@@ -59,14 +52,32 @@ pub fn read_bytes(buf: &mut [u8]) -> u64
     n
 }
 
-// A field of bytes, put behind the first `from` of buf: where it ends, or more than buf has where it or one before it is cut.
-pub fn read_after(buf: &mut [u8], from: u64) -> u64
-    requires { ⌜ from ≤ 17179869184 ⌝ }
+// A field of bytes, put at the start of buf: how many there are, or CUT.
+pub fn read_bytes(buf: &mut [u8]) -> u64
+    ensures { λ r. ⌜ r ≤ 4294967296 ⌝ }
+{
+    let n = read_number();
+    read_exactly(buf, n)
+}
+
+// So many bytes of a frame, put behind the first `from` of buf: where they end, or more than buf has where they or what is before them is cut.
+pub fn gather(buf: &mut [u8], from: u64, n: u64) -> u64
+    requires { ⌜ (from ≤ 1099511627776) × (n ≤ 4294967296) ⌝ }
     ensures { λ r. ⌜ r ≤ from + 4294967296 ⌝ }
 {
     if lent::lacks(buf, from) {
         return from;
     }
     let at = lent::within(from, buf);
-    from + read_bytes(&mut buf[at..])
+    from + read_exactly(&mut buf[at..], n)
+}
+
+// A field of bytes with its length before it, in the same way.
+pub fn gather_text(buf: &mut [u8], from: u64) -> u64
+    requires { ⌜ from ≤ 549755813888 ⌝ }
+    ensures { λ r. ⌜ r ≤ from + 8589934592 ⌝ }
+{
+    let at = gather(buf, from, 4);
+    let n = lent::number(buf, from);
+    gather(buf, at, n)
 }

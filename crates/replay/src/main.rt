@@ -13,19 +13,19 @@
 //   V  u32 number, u64 time, u32, bytes cookie, bytes random
 //                                                 visit, with an output of this size
 //
-// Room: a table of 70,000 bytes, texts of 65,536 in a frame, an output of 16,384, any other lent buffer of 4,096.
+// Room: a table of 70,000 bytes, a frame of 131,072, bytes of 65,536 in a frame of another kind than A or V, an output of 16,384, any other lent buffer of 4,096.
 mod answer;
 mod frame;
 mod line;
 mod visit;
 
 use answer::answer;
-use frame::CUT;
 use frame::read_byte;
 use frame::read_bytes;
 use frame::read_long;
 use frame::read_number;
-use frame::whole;
+use lent::CUT;
+use lent::whole;
 use line::say_finish;
 use line::say_form;
 use line::say_table;

@@ -1,31 +1,29 @@
-// The frame of a visit: its fields and texts read, the call made on the bytes that they name.
+// The frame of a visit: gathered, the call made on the bytes that it names.
 use super::Held;
 use super::cut;
-use super::frame::CUT;
-use super::frame::read_after;
-use super::frame::read_long;
-use super::frame::read_number;
+use super::frame::gather;
+use super::frame::gather_text;
 use super::line::say_visit;
+use lent::CUT;
+use lent::field;
+use lent::long;
+use lent::number;
 
 pub fn visit(held: Held, table: &[u8]) -> Held {
-    let number = read_number();
-    let time = read_long();
-    let size = read_number();
-    if 16384 < size {
-        return cut();
-    }
-    let mut texts = [0u8; 65536];
-    let cookie = read_after(&mut texts, 0);
-    let random = read_after(&mut texts, cookie);
-    if 65536 < random {
+    let mut frame = [0u8; 131072];
+    let head = gather(&mut frame, 1, 16);
+    let cookie = gather_text(&mut frame, head);
+    let random = gather_text(&mut frame, cookie);
+    let size = number(&frame, 13);
+    if lent::lacks(&frame, random) | (16384 < size) {
         return cut();
     }
     visit_sized(
         lent::part(table, 0, held.table),
-        lent::part(&texts, 0, cookie),
-        (number % CUT) as u32,
-        time,
-        lent::part(&texts, cookie, random),
+        field(&frame, 17, cookie),
+        (number(&frame, 1) % CUT) as u32,
+        long(&frame, 5),
+        field(&frame, cookie, random),
         size,
     );
     held
