@@ -14,7 +14,6 @@ use Rattle.protocol.specs.Register.{decodeRegister}
 use Rattle.protocol.specs.Request.{Read, Malformed, Given, Posted, LoginPost}
 use Rattle.protocol.specs.Answers.{Reply, ErrorPage, SignedIn, FormPage, RedirectTo, replyText, replyAnswer, pageHead}
 use Rattle.protocol.specs.Steps.{Step, remove, isNamed, slotNamed, sessionOf, slotFor, newRec, newLogin, newSession, newService, expiryFor, add, formWith, ticketWith, ticketStep, unknownService, loginPost}
-use Rattle.protocol.specs.declared.Admission.the-variants as admission
 use Rattle.protocol.proofs.Laws.{both, same-eq, same-refl}
 use Rattle.protocol.proofs.Kept.{put-same}
 use Rattle.protocol.proofs.Added.{Room}

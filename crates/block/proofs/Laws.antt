@@ -39,11 +39,8 @@ got-more s at n i v g p h e k =
     }
 
 -- so far there is room for one byte more
-below-seven : (m v : ℕ) → m ≤ 7 → v < 256 ^ m → v < 256 ^ 7
-below-seven m v h k = lt-of-lt-of-le k (pow-le-pow-right (lit< tt) h)
-
 pub got-room : (s : List ℕ) (at n i v : ℕ) → Got s at n i v → i < n → n ≤ 8 → v < 256 ^ 7
-got-room s at n i v g h k = below-seven i v (omega arith) (g .below)
+got-room s at n i v g h k = let l : i ≤ 7 = omega arith in lt-of-lt-of-le (g .below) (pow-le-pow-right (lit< tt) l)
 
 pub got-all : (s : List ℕ) (at n i : ℕ) {v : ℕ} → Got s at n i v → n ≤ i → v ≡ num at n s
 got-all s at n i g h =

@@ -100,9 +100,6 @@ apart true a b s h f e = refl
 apart false true b s h f e = absurd (let z : _≡_ {A = ℕ} 0 1 = cc in omega arith)
 apart false false b s h f e = rw (f refl h)
 
-eqb-turn : (m n : ℕ) → eqb m n ≡ false → eqb n m ≡ false
-eqb-turn m n h = ne-eqb n m (λ e. eqb-false m n h (sym e))
-
 pub differ-set : (r : Rec) (rs : List Rec) (i : ℕ) → serialsDiffer rs ≡ true → serialTaken (r .serial) rs ≡ false → serialsDiffer (set rs i r) ≡ true
 unfolding serialsDiffer serialTaken
 differ-set r [] i e h = e
@@ -114,7 +111,7 @@ differ-set r (q ∷ rs) (suc i) e h =
     let p = or-both (not (eqb (q .kind) aFree) && eqb (q .serial) (r .serial)) (serialTaken (r .serial) rs) h in
     let d = both (eqb (q .kind) aFree || not (serialTaken (q .serial) rs)) (serialsDiffer rs) e in
     rw (apart (eqb (q .kind) aFree) (serialTaken (q .serial) rs) (serialTaken (q .serial) (set rs i r)) (eqb (q .serial) (r .serial)) (p .0)
-    (λ a s. taken-set (q .serial) r rs i a (rw (eqb-turn (q .serial) (r .serial) s) (and-false (not (eqb (r .kind) aFree))))) (d .0))
+    (λ a s. taken-set (q .serial) r rs i a (rw (ne-eqb (r .serial) (q .serial) (λ e. eqb-false (q .serial) (r .serial) s (sym e))) (and-false (not (eqb (r .kind) aFree))))) (d .0))
     (differ-set r rs i (d .1) (p .1))
 
 -- Counting

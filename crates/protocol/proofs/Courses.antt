@@ -1,9 +1,9 @@
 -- What a step does. Every step takes one of the courses below, each with what holds there: the ladders of Steps are walked here and nowhere else.
 -- That a lawful table stays lawful, that answers fit, that serials never fall, and the account, go by cases over courses. Assumes nothing.
-use mathlib.Core.Path.{_≡_, refl}
+use mathlib.Core.Path.{_≡_}
 use mathlib.Core.Bool.{Bool, true, false, _&&_, _||_, not}
 use mathlib.Core.List.{List, []}
-use Prim.Native.Nat.{ℕ, suc, _+_, _≤_, _<_}
+use Prim.Native.Nat.{ℕ, _+_, _≤_, _<_}
 use native.Mathlib.Omega.{arith}
 use borrow.Author.Tests.{eqb-true, eqb-false, ne-eqb, leb-true, ltb-true, not-true, not-false}
 use lib.Dec.{eqb, leb, ltb}
@@ -17,13 +17,9 @@ use Rattle.protocol.specs.Answers.{Code, ErrorPage, SignedIn, RedirectTo
 use Rattle.protocol.specs.Steps.{Brought, Step, step, put, remove, endSession, slotNamed, sessionOf, ticketSlot, slotFor, roomFor, newRec, newLogin, newSession, newWaiting, newProxy, add, successOf, formWith, formStep, ticketStep, unknownService, wayOf, signedOn, taken, admitted, needs, keepSession, sessionWith, openSession, standingOf, admits, accepted, admissionOf, entered, credentials, isPlain, takesProxies, failed, proxyParent, rulingOf, turned, leftBy, grants, waitingWith, grantOrTell, acceptTicket, ruled, presented, waitingSlot, finished, finishAt, finish, proxyWith, proxyBy, withoutSession}
 use Rattle.protocol.specs.declared.Validator.{Validator}
 use Rattle.protocol.specs.declared.Way.{Way}
-use Rattle.protocol.specs.declared.Way.the-variants as way
 use Rattle.protocol.specs.declared.Standing.{Standing}
-use Rattle.protocol.specs.declared.Standing.the-variants as standing
 use Rattle.protocol.specs.declared.Admission.{Admission}
-use Rattle.protocol.specs.declared.Admission.the-variants as admission
 use Rattle.protocol.specs.declared.Ruling.{Ruling}
-use Rattle.protocol.specs.declared.Ruling.the-variants as ruling
 use Rattle.protocol.proofs.Laws.{both, or-both, fork}
 use Rattle.protocol.proofs.Added.{Room, room-one}
 use Rattle.protocol.proofs.Searches.{Live, slot-live, waiting-live, Ticket, ticket-live, nonzero, room-less, room-after}

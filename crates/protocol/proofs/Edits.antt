@@ -15,8 +15,7 @@ use Rattle.protocol.specs.Table.{Table, recAt}
 use Rattle.protocol.specs.Request.{Malformed, Given, Asked, Posted, Shown, Wanted, Request, NoPath, NotTaken, LoginGet, LoginPost, Logout, Validate, Proxy}
 use Rattle.protocol.specs.Steps.{Brought, Step, clearRec, endRec, tick, put, remove, endSession, slotNamed, sessionOf, slotFor, ticketSlot, newLogin, newSession, newService, newWaiting, newProxy, add, formWith, ticketWith, ticketStep, turned, leftBy, waitingWith, waitingSlot, finished, finish, proxyWith, loginGet, loginPost, logout, validate, proxy, requestStep}
 use Rattle.protocol.specs.declared.Validator.{Validator}
-use Rattle.protocol.proofs.Laws.{both, own, fork}
-use Rattle.protocol.proofs.Added.{Room}
+use Rattle.protocol.proofs.Laws.{both, own}
 use Rattle.protocol.proofs.Courses.{FormCourse, shows, no-form, AdmitCourse, signed-in, tickets, StandCourse, stands, no-ticket, OpenCourse, opens, no-session, GetCourse, unknown, standing-by, away, form-shown, get-course, AcceptedCourse, fresh, kept, changed, PostCourse, again, enters, post-course, AcceptCourse, plainly, calls, tells, ShownCourse, lacks, none, spends, burns, accepts, shown-course, FinishCourse, raises, drops, finish-course, ProxyCourse, fails, issues, proxy-course, LeaveCourse, stays, ends, leave-course}
 use Rattle.protocol.proofs.Sound.{length-put}
 

@@ -1,9 +1,9 @@
 -- What holds of every call: the length of no table and of no buffer changes, what is told to have been written fits, and the next serial never falls.
 -- Assumes nothing.
-use mathlib.Core.Path.{_≡_, refl, sym, ap, _∙_}
-use mathlib.Core.Bool.{Bool, true, false, _&&_, not}
+use mathlib.Core.Path.{_≡_, refl}
+use mathlib.Core.Bool.{Bool, true, false, _&&_}
 use mathlib.Core.List.{List, [], _∷_}
-use Prim.Native.Nat.{ℕ, zero, suc, _+_, _-_, _/_, _%_, _≤_, _<_, max}
+use Prim.Native.Nat.{ℕ, zero, suc, _-_, _/_, _%_, _≤_, max}
 use native.Mathlib.Omega.{arith}
 use borrow.Author.Tests.{eqb-true, leb-true}
 use lib.Dec.{eqb, leb}
@@ -18,7 +18,7 @@ use Rattle.protocol.specs.Calls.{Inputs, Result, refusal, brought, stepO
 use Rattle.protocol.specs.Visits.{isVisit, visitsIn, sessionAt, visitsOf, VisitRead, visitGiven, visitRefusal, visitSaid, visitOf}
 use Rattle.protocol.specs.Held.{AllFit}
 use Rattle.protocol.proofs.Laws.{both, fork, length-table, table-back}
-use Rattle.protocol.proofs.Sound.{Sound, tick-sound}
+use Rattle.protocol.proofs.Sound.{Sound}
 use Rattle.protocol.proofs.Proper.{ProperPosted, posted-proper}
 use Rattle.protocol.proofs.Visits.{visit-fits}
 use Rattle.protocol.proofs.Places.{slots-count}
@@ -27,7 +27,7 @@ use Rattle.protocol.proofs.Courses.{FinishCourse, none, raises, drops, 
 use Rattle.protocol.proofs.Sizes.{length-spliced, small-fits}
 use Rattle.protocol.proofs.Replies.{Fitting, finish-fits}
 use Rattle.protocol.proofs.StepSound.{finish-sound}
-use Rattle.protocol.proofs.Lasting.{passes, lawful-sound, passed, started, step-sound, step-fits, Finishes, finishes, formatted-sound}
+use Rattle.protocol.proofs.Lasting.{passes, lawful-sound, passed, started, step-sound, step-fits, finishes, formatted-sound}
 
 -- The calls that answer over a table
 

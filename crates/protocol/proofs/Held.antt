@@ -11,7 +11,7 @@ use Rattle.protocol.specs.Records.{Rec, encodeRec, decodeRec}
 use Rattle.protocol.specs.Table.{Table, tableOf, headBody, encodeTable, decodeTable, recAt, slotWhere, lastTime}
 use Rattle.protocol.specs.Steps.{put, slotFor, roomFor}
 use Rattle.protocol.specs.Held.{Fits, AllFit, Fine, Holds, In, Lawful}
-use Rattle.protocol.proofs.Laws.{recRight, rules, rules-hold, table-back, length-table, length-rec}
+use Rattle.protocol.proofs.Laws.{recRight, rules, table-back, length-table, length-rec}
 use Rattle.protocol.proofs.Places.{slot-read, slot-bytes, put-bytes, head-put, slots-count}
 use Rattle.protocol.proofs.Kept.{SessionView, ParentView, unnamed, named, orphan, of-session, of-grant, session-view, parent-view, recs3, right-slot}
 use Rattle.protocol.proofs.Searches.{slot-within}

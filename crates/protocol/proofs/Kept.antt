@@ -7,10 +7,9 @@ use native.Mathlib.Omega.{arith}
 use borrow.Author.Tests.{ne-eqb, eqb-true, eqb-false, leb-true, le-leb, ltb-true, ltb-false, lt-ltb}
 use lib.Dec.{eqb, leb, ltb}
 use lib.ListN.{length, getD, set}
-use Rattle.protocol.specs.Bytes.{if}
+use Rattle.protocol.specs.Bytes.{if, allWithin}
 use Rattle.protocol.specs.Tickets.{aFree, aSession, aService, aProxy, aGrant, aVisit, lifetime, markMost, depthLeast, depthMost, textLeast, textMost}
 use Rattle.protocol.specs.Records.{Rec, freeRec, live, ownRight, fieldsRight, sinceRight, textRight, serialRight, expiryRight}
-use Rattle.protocol.specs.Bytes.{allWithin}
 use Rattle.protocol.specs.Table.{Table, tableOf, recAt, putAt, sessionRight, parentRight, grantRight, allRight, serialTaken, serialsDiffer, countKind, lastTime}
 use lib.Seq.{getD-set-other, getD-set-same}
 use Rattle.protocol.specs.Steps.{clearRec, endRec, tick, remove, endSession}
@@ -178,11 +177,8 @@ module _ (c c′ n : ℕ) (o : c ≤ c′) (old : List Rec) (all : allRight c n 
   stays-at : (k : ℕ) → c′ < recAt k old .expiry → recAt k (map (clearRec c′) old) ≡ recAt k old
   stays-at k h = clear-slot c′ old k ∙ rw (lt-ltb c′ (recAt k old .expiry) h)
 
-  none-at : (k : ℕ) → k ≡ 0 → recAt k (map (clearRec c′) old) ≡ recAt k old
-  none-at k h = rw h
-
   session-stays : (r : Rec) → c′ < r .expiry → SessionView old r → recAt (r .session) (map (clearRec c′) old) ≡ recAt (r .session) old
-  session-stays r l (unnamed h e) = none-at (r .session) e
+  session-stays r l (unnamed h e) = rw e
   session-stays r l (named h e m g) = stays-at (r .session) (omega arith)
 
   -- a parent grant lasts as long as the session, so as long as the record
@@ -192,7 +188,7 @@ module _ (c c′ n : ℕ) (o : c ≤ c′) (old : List Rec) (all : allRight c n 
   grant-lasts r p h s k (named a b m g) (named x y z w) = let e = w k in let q : recAt (p .session) old ≡ recAt (r .session) old = rw s in omega (arith, ap (λ (u : Rec). u .expiry) q)
 
   parent-stays : (r : Rec) → c′ < r .expiry → SessionView old r → ParentView old r → recAt (r .parent) (map (clearRec c′) old) ≡ recAt (r .parent) old
-  parent-stays r l v (orphan e) = none-at (r .parent) e
+  parent-stays r l v (orphan e) = rw e
   parent-stays r l v (of-session k n e) = rw e (session-stays r l v)
   parent-stays r l v (of-grant h k s) =
       let w : SessionView old (recAt (r .parent) old) = session-view old (recAt (r .parent) old) (recs3 c n old (recAt (r .parent) old) (right-slot c n old all (r .parent)) .1) in

@@ -1,5 +1,5 @@
 -- A lawful table stays lawful: after every answer and every finish, and a formatted table is lawful. Assumes nothing.
-use mathlib.Core.Path.{_≡_, refl, ap, _∙_}
+use mathlib.Core.Path.{_≡_, refl, ap}
 use mathlib.Core.Bool.{Bool, true, false, _&&_}
 use mathlib.Core.List.{List}
 use Prim.Native.Nat.{ℕ, zero, suc, _-_, _/_, _%_, _≤_}
@@ -7,22 +7,19 @@ use native.Mathlib.Omega.{arith}
 use borrow.Author.Tests.{eqb-true, leb-true}
 use lib.Dec.{eqb, leb}
 use lib.ListN.{length, drop, replicate, length-map, length-replicate}
-use Rattle.protocol.specs.Bytes.{if, within, blocks}
+use Rattle.protocol.specs.Bytes.{within, blocks}
 use Rattle.protocol.specs.Records.{Rec, freeRec, decodeRec}
-use Rattle.protocol.specs.Table.{Table, decodeTable, tableShape, tableLawful, lastTime, allRight, serialsDiffer, countKind, formatted, loginCap}
+use Rattle.protocol.specs.Table.{decodeTable, tableShape, tableLawful, lastTime, allRight, serialsDiffer, countKind, formatted, loginCap}
 use Rattle.protocol.specs.Register.{registerLawful}
 use Rattle.protocol.specs.Request.{requestOf}
-use Rattle.protocol.specs.Steps.{Step, tick, requestStep, finish}
-use Rattle.protocol.specs.Calls.{Inputs, Result, answerRefusal, refusal, brought, stepOf, delivered, unchanged, answerOf, finishRefusal, finishOf, formatRefusal, formatOf, checkOf, unless, sizesRight, requestFits}
+use Rattle.protocol.specs.Steps.{tick, finish}
+use Rattle.protocol.specs.Calls.{Inputs, answerRefusal, refusal, brought, stepOf, delivered, answerOf, finishRefusal, finishOf, formatRefusal, formatOf, checkOf, unless, sizesRight, requestFits}
 use Rattle.protocol.specs.Held.{AllFit}
-use Rattle.protocol.proofs.Laws.{both, length-table, rules, lawful-rules, lawful-fits, lawful-next}
+use Rattle.protocol.proofs.Laws.{both, rules, lawful-rules, lawful-fits, lawful-next}
 use Rattle.protocol.proofs.Sound.{Sound, sound-lawful, tick-sound, free-fits}
 use Rattle.protocol.proofs.Kept.{free-right}
-use Rattle.protocol.proofs.Edits.{Edits, request-edits, finish-edits, size-edits, size-tick, reach, reach-rises}
 use Rattle.protocol.proofs.Proper.{request-proper}
-use Rattle.protocol.proofs.Sizes.{length-spliced, small-fits}
-use Rattle.protocol.proofs.Replies.{Fitting, request-fits, finish-fits}
-use Rattle.protocol.specs.Answers.{replyText}
+use Rattle.protocol.proofs.Replies.{Fitting, request-fits}
 use Rattle.protocol.proofs.StepSound.{request-sound, finish-sound}
 
 length-blocks : (m n : ℕ) (s : List ℕ) → length (blocks m n s) ≡ m

@@ -202,43 +202,28 @@ module _ (r : Rec) (f : Sized r) where
       ap leOf (rw e (part-mid (first256 ++ r .iou) (bytesOf 8 (r .since)) (zeros 228 ++ check) 272 8 l (length-bytes 8 (r .since))))
 
 module _ (r : Rec) where
-  -- its numbers, as their bytes spell them
-  parent-read : num 2 2 (encodeRec r) ≡ leOf (bytesOf 2 (r .parent))
+  -- its numbers, as their bytes spell them: kind, mark, depth, parent, session, serial, expiry
+  numbers-read : (getD (encodeRec r) 0 0 ≡ r .kind) × (getD (encodeRec r) 1 0 ≡ r .mark) × (getD (encodeRec r) 6 0 ≡ r .depth) × (num 2 2 (encodeRec r) ≡ leOf (bytesOf 2 (r .parent)))
+      × (num 4 2 (encodeRec r) ≡ leOf (bytesOf 2 (r .session))) × (num 8 4 (encodeRec r) ≡ leOf (bytesOf 4 (r .serial))) × (num 16 8 (encodeRec r) ≡ leOf (bytesOf 8 (r .expiry)))
   unfolding encodeRec sealed recBody bytesOf
-  parent-read = refl
-
-  session-read : num 4 2 (encodeRec r) ≡ leOf (bytesOf 2 (r .session))
-  unfolding encodeRec sealed recBody bytesOf
-  session-read = refl
-
-  serial-read : num 8 4 (encodeRec r) ≡ leOf (bytesOf 4 (r .serial))
-  unfolding encodeRec sealed recBody bytesOf
-  serial-read = refl
-
-  expiry-read : num 16 8 (encodeRec r) ≡ leOf (bytesOf 8 (r .expiry))
-  unfolding encodeRec sealed recBody bytesOf
-  expiry-read = refl
-
-  single-back : (getD (encodeRec r) 0 0 ≡ r .kind) × (getD (encodeRec r) 1 0 ≡ r .mark) × (getD (encodeRec r) 6 0 ≡ r .depth)
-  unfolding encodeRec sealed recBody bytesOf
-  single-back = (refl, refl, refl)
+  numbers-read = (refl, refl, refl, refl, refl, refl, refl)
 
   -- what was written is read back
   pub rec-back : Fits r → decodeRec (encodeRec r) ≡ r
   unfolding decodeRec
   rec-back f =
-      let s = single-back in
+      let s = numbers-read in
       let z = f .sized in
-      rw (text-back r z, s .0, s .1, s .2, parent-read, le-bytes 2 (r .parent) (f .parent), session-read, le-bytes 2 (r .session) (f .session), serial-read, le-bytes 4 (r .serial) (f .serial), expiry-read, le-bytes 8 (r .expiry) (f .expiry), secret-back r z, iou-back r z, since-read r z, le-bytes 8 (r .since) (f .since))
+      rw (text-back r z, s .0, s .1, s .2, s .3, le-bytes 2 (r .parent) (f .parent), s .4, le-bytes 2 (r .session) (f .session), s .5, le-bytes 4 (r .serial) (f .serial), s .6, le-bytes 8 (r .expiry) (f .expiry), secret-back r z, iou-back r z, since-read r z, le-bytes 8 (r .since) (f .since))
 
   -- a block that is its own record's has numbers that fit
   pub fits-read : (b : List ℕ) → r ≡ decodeRec b → b ≡ encodeRec r → Sized r → Fits r
   unfolding decodeRec
   fits-read b d e z =
-      let p : r .parent ≡ leOf (bytesOf 2 (r .parent)) = ap (λ (x : Rec). x .parent) d ∙ ap (λ (l : List ℕ). num 2 2 l) e ∙ parent-read in
-      let s : r .session ≡ leOf (bytesOf 2 (r .session)) = ap (λ (x : Rec). x .session) d ∙ ap (λ (l : List ℕ). num 4 2 l) e ∙ session-read in
-      let n : r .serial ≡ leOf (bytesOf 4 (r .serial)) = ap (λ (x : Rec). x .serial) d ∙ ap (λ (l : List ℕ). num 8 4 l) e ∙ serial-read in
-      let x : r .expiry ≡ leOf (bytesOf 8 (r .expiry)) = ap (λ (x : Rec). x .expiry) d ∙ ap (λ (l : List ℕ). num 16 8 l) e ∙ expiry-read in
+      let p : r .parent ≡ leOf (bytesOf 2 (r .parent)) = ap (λ (x : Rec). x .parent) d ∙ ap (λ (l : List ℕ). num 2 2 l) e ∙ numbers-read .3 in
+      let s : r .session ≡ leOf (bytesOf 2 (r .session)) = ap (λ (x : Rec). x .session) d ∙ ap (λ (l : List ℕ). num 4 2 l) e ∙ numbers-read .4 in
+      let n : r .serial ≡ leOf (bytesOf 4 (r .serial)) = ap (λ (x : Rec). x .serial) d ∙ ap (λ (l : List ℕ). num 8 4 l) e ∙ numbers-read .5 in
+      let x : r .expiry ≡ leOf (bytesOf 8 (r .expiry)) = ap (λ (x : Rec). x .expiry) d ∙ ap (λ (l : List ℕ). num 16 8 l) e ∙ numbers-read .6 in
       let y : r .since ≡ leOf (bytesOf 8 (r .since)) = ap (λ (x : Rec). x .since) d ∙ ap (λ (l : List ℕ). num 272 8 l) e ∙ since-read r z in
       record {
         parent = omega (arith, le-below 2 (r .parent));

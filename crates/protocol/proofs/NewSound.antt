@@ -1,11 +1,11 @@
 -- A sound table with a new record is sound: a login ticket, a session, a service ticket, a waiting grant, a proxy ticket. Assumes nothing.
 use mathlib.Core.Path.{_≡_, refl, ap, _∙_}
-use mathlib.Core.Bool.{Bool, true, false}
+use mathlib.Core.Bool.{true}
 use mathlib.Core.List.{List, []}
 use Prim.Native.Nat.{ℕ, zero, suc, _+_, _%_, _≤_, _<_, min}
 use native.Mathlib.Omega.{arith}
 use borrow.Author.Tests.{eq-eqb, ne-eqb, le-leb, le-ltb}
-use lib.Dec.{eqb, leb}
+use lib.Dec.{eqb}
 use lib.ListN.{length}
 use Rattle.protocol.specs.Utf8.{nameRight}
 use Rattle.protocol.specs.Bytes.{if, allWithin}
@@ -17,7 +17,7 @@ use Rattle.protocol.proofs.Laws.{Own, own, recRight}
 use Rattle.protocol.proofs.Kept.{SessionView, unnamed, named, ParentView, session-view, parent-view, recs3, right-slot, same-links, put-other}
 use Rattle.protocol.proofs.Added.{Room}
 use Rattle.protocol.proofs.Searches.{slot-within, Live}
-use Rattle.protocol.proofs.Sound.{Sound, login-kind, session-kind, service-kind, waiting-kind, proxy-kind, new-fits, new-own, add-sound}
+use Rattle.protocol.proofs.Sound.{Sound, new-kind, new-fits, new-own, add-sound}
 
 -- What a record's links say
 
@@ -38,9 +38,6 @@ module _ (t : Table) (s : Sound t) where
 
 -- New records, and the table with them
 
-session-expiry : (s a b : ℕ) → 1 ≤ s → if (eqb s 0) a (min a b) ≤ b
-session-expiry s a b h = rw (ne-eqb s 0 (λ e. omega arith)) (omega arith)
-
 -- a record of kind 3 to 5 under a session keeps the session rule
 pub new-session : (kind mark parent s depth : ℕ) (text random : List ℕ) (t : Table) → 3 ≤ kind → kind < 6 → 1 ≤ s → recAt s (t .slots) .kind ≡ 2
     → sessionRight (t .slots) (newRec kind mark parent s depth text random t) ≡ true
@@ -51,7 +48,7 @@ new-session kind mark parent s depth text random t h g p e =
       eq-eqb (recAt s (t .slots) .kind) 2 e,
       ne-eqb kind 6 (λ z. omega arith),
       ne-eqb kind 7 (λ z. omega arith),
-      le-leb (if (eqb s 0) (t .clock + lifetime kind) (min (t .clock + lifetime kind) (recAt s (t .slots) .expiry))) (recAt s (t .slots) .expiry) (session-expiry s (t .clock + lifetime kind) (recAt s (t .slots) .expiry) p),
+      le-leb (if (eqb s 0) (t .clock + lifetime kind) (min (t .clock + lifetime kind) (recAt s (t .slots) .expiry))) (recAt s (t .slots) .expiry) (rw (ne-eqb s 0 (λ e. omega arith)) (omega arith)),
     )
 
 -- a new record whose links are right in the table as it is is right in the table with it
@@ -77,7 +74,7 @@ module _ (random : List ℕ) (h : length random ≡ 48) (t : Table) (s : Sound t
   login-right : recRight (t .clock) ((t .next + 1) % 4294967296) (t .slots) (newRec 1 0 0 0 0 [] random t) ≡ true
   unfolding newRec sessionRight parentRight markMost depthLeast depthMost textLeast textMost allWithin
   login-right =
-      rw (new-own 1 0 0 0 0 [] random t (login-kind random h) (omega arith) (omega arith) (omega arith) (omega arith) (omega arith) refl (λ e. absurd (let z : _≡_ {A = ℕ} 0 1 = cc in omega arith)) (m .serial) (s .next))
+      rw (new-own 1 0 0 0 0 [] random t (new-kind random h 1 (omega arith) (omega arith)) (omega arith) (omega arith) (omega arith) (omega arith) (omega arith) refl (λ e. absurd (let z : _≡_ {A = ℕ} 0 1 = cc in omega arith)) (m .serial) (s .next))
 
   pub login-sound : countKind aLogin (t .slots) < loginCap → Sound (add (newRec 1 0 0 0 0 [] random t) t)
   unfolding newRec
@@ -91,7 +88,7 @@ module _ (random : List ℕ) (h : length random ≡ 48) (t : Table) (s : Sound t
   session-sound user lo hi w =
       add-sound (newRec 2 0 0 0 0 user random t) t m refl
       (linked (newRec 2 0 0 0 0 user random t) t ((t .next + 1) % 4294967296) (zero-slot 0 refl) (zero-slot 0 refl)
-      (rw (new-own 2 0 0 0 0 user random t (session-kind random h) (omega arith) (omega arith) (omega arith) lo hi w (λ e. absurd (let z : _≡_ {A = ℕ} 0 1 = cc in omega arith)) (m .serial) (s .next))))
+      (rw (new-own 2 0 0 0 0 user random t (new-kind random h 2 (omega arith) (omega arith)) (omega arith) (omega arith) (omega arith) lo hi w (λ e. absurd (let z : _≡_ {A = ℕ} 0 1 = cc in omega arith)) (m .serial) (s .next))))
       (omega (arith, s .rules .logins)) (new-fits 2 0 0 0 0 user random t (omega arith) (omega arith) (omega arith) h s) s
 
   -- a service ticket of a live session
@@ -110,7 +107,7 @@ module _ (random : List ℕ) (h : length random ≡ 48) (t : Table) (s : Sound t
       pub service-sound : mark ≤ 1 → 1 ≤ length service → length service ≤ 200 → allWithin 32 126 service ≡ true → Sound (add newTicket t)
       unfolding markMost depthLeast depthMost textLeast textMost
       service-sound hm lo hi w =
-          let own = new-own 3 mark k k 0 service random t (service-kind random h) hm (omega arith) (omega arith) lo hi w (λ e. l) (m .serial) (s .next) in
+          let own = new-own 3 mark k k 0 service random t (new-kind random h 3 (omega arith) (omega arith)) hm (omega arith) (omega arith) lo hi w (λ e. l) (m .serial) (s .next) in
           let sess = new-session 3 mark k k 0 service random t (omega arith) (omega arith) p is in
           let q = ticket-links in
           add-sound newTicket t m (q .3) (linked newTicket t ((t .next + 1) % 4294967296) (q .0) (q .1) (rw (own, sess, q .2))) (rw (q .4) (omega (arith, s .rules .logins)))
@@ -153,7 +150,7 @@ module _ (random : List ℕ) (h : length random ≡ 48) (t : Table) (s : Sound t
     pub waiting-sound : mark ≤ 1 → recAt parent (t .slots) .depth + 1 ≤ deepest → 1 ≤ length url → length url ≤ 200 → allWithin 32 126 url ≡ true → Sound (add waiting t)
     unfolding markMost depthLeast depthMost textLeast textMost
     waiting-sound hm hd lo hi w =
-        let own = new-own 5 mark parent session (recAt parent (t .slots) .depth + 1) url random t (waiting-kind random h) hm (omega arith) hd lo hi w (λ e. b .lasts) (m .serial) (s .next) in
+        let own = new-own 5 mark parent session (recAt parent (t .slots) .depth + 1) url random t (new-kind random h 5 (omega arith) (omega arith)) hm (omega arith) hd lo hi w (λ e. b .lasts) (m .serial) (s .next) in
         let sess = new-session 5 mark parent session (recAt parent (t .slots) .depth + 1) url random t (omega arith) (omega arith) (b .some) (b .is) in
         let p = parent-ok (b .above) in
         let f = facts in
@@ -182,7 +179,7 @@ module _ (random : List ℕ) (h : length random ≡ 48) (t : Table) (s : Sound t
   unfolding markMost depthLeast depthMost textLeast textMost
   proxy-ticket-sound lo hi w =
       let u = under (view t s k) in
-      let own = new-own 4 0 k session 0 target random t (proxy-kind random h) (omega arith) (omega arith) (omega arith) lo hi w (λ e. u .1) (m .serial) (s .next) in
+      let own = new-own 4 0 k session 0 target random t (new-kind random h 4 (omega arith) (omega arith)) (omega arith) (omega arith) (omega arith) lo hi w (λ e. u .1) (m .serial) (s .next) in
       let sess = new-session 4 0 k session 0 target random t (omega arith) (omega arith) (slot-some t s session (u .0)) (u .0) in
       let f = proxy-links in
       add-sound proxyRec t m (f .1) (linked proxyRec t ((t .next + 1) % 4294967296) (rw (f .3) (not-new random h t s m session (λ x. omega (arith, u .0)))) (rw (f .4) (not-new random h t s m k (λ x. omega (arith, l .is)))) (rw (own, sess, f .0)))

@@ -6,15 +6,13 @@ use Prim.Native.Nat.{ℕ, zero, suc, _+_, _%_, _-_, _<_}
 use native.Mathlib.Nat.{mod-add-mod, add-assoc, mod-lt, not-suc-le-zero, le-of-suc-le-suc}
 use native.Mathlib.Omega.{arith}
 use native.Mathlib.Decide.{decLt}
-use borrow.Author.Tests.{ne-eqb, eqb-true}
+use borrow.Author.Tests.{ne-eqb, eqb-true, eq-eqb}
 use lib.Dec.{lit<}
 use lib.ListN.{length, take, drop, set, getD, length-drop}
-use lib.Seq.{take-set-lt, take-set-le, drop-set-lt, drop-set-add, length-take-le, getD-take, getD-drop}
+use lib.Seq.{take-set-lt, take-set-le, drop-set-lt, drop-set-add, length-take-le, getD-take, getD-drop, take-at, drop-at, take-all}
 use Rattle.protocol.specs.Bytes.{leOf, num, bytesOf}
 use Rattle.protocol.specs.Blocks.{checkFrom, houseCheck, checkRight, sealed}
 use Rattle.protocol.proofs.Laws.{le-bytes, length-bytes}
-use lib.Seq.{take-at, drop-at, take-all}
-use borrow.Author.Tests.{eq-eqb}
 
 sum : List ℕ → ℕ
 sum [] = 0

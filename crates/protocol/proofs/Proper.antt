@@ -1,6 +1,6 @@
 -- What was read of a request keeps its limits: a value of a well-formed request has the length and the bytes of its name. Assumes nothing.
 use mathlib.Core.Path.{_≡_, refl}
-use mathlib.Core.Bool.{Bool, true, false, _||_, not}
+use mathlib.Core.Bool.{Bool, true, false, not}
 use mathlib.Core.List.{List, [], _∷_}
 use Prim.Native.Nat.{ℕ, _≤_}
 use native.Mathlib.Omega.{arith}
@@ -8,8 +8,8 @@ use borrow.Author.Tests.{leb-true, not-false}
 use lib.Dec.{leb, ltb}
 use lib.ListN.{length}
 use Rattle.protocol.specs.Utf8.{nameRight}
-use Rattle.protocol.specs.Bytes.{if, ascii, same, among, allWithin}
-use Rattle.protocol.specs.Request.{Read, Malformed, Given, Asked, asked, Posted, posted, leaving, Shown, shown, Wanted, wanted, Request, NoPath, NotTaken, LoginGet, LoginPost, Logout, Validate, Proxy, requestOf, getRequest, postRequest, pathPart, pathNamed, queryPart, readUnless, urlShown, loginNames, logoutNames, bodyNames, validatorNames, proxyNames, malformed, badName, occurrences, rawValue, decoded, valueRight, valueMost, charsRight, valueOf, fromQuery, fromBody, present}
+use Rattle.protocol.specs.Bytes.{ascii, same, among, allWithin}
+use Rattle.protocol.specs.Request.{Read, Malformed, Given, Asked, asked, Posted, posted, leaving, Shown, shown, Wanted, wanted, Request, NoPath, NotTaken, LoginGet, LoginPost, Logout, Validate, Proxy, requestOf, getRequest, postRequest, pathPart, pathNamed, queryPart, urlShown, loginNames, logoutNames, bodyNames, validatorNames, proxyNames, malformed, badName, occurrences, rawValue, decoded, valueRight, valueMost, charsRight, valueOf, fromQuery, fromBody}
 use Rattle.protocol.specs.declared.Method.{Method}
 use Rattle.protocol.specs.declared.Method.the-variants as method
 use Rattle.protocol.specs.declared.Path.{Path}

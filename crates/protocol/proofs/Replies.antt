@@ -2,7 +2,7 @@
 use mathlib.Core.Path.{_≡_, refl, ap}
 use mathlib.Core.Bool.{Bool, true, false}
 use mathlib.Core.List.{List, []}
-use Prim.Native.Nat.{ℕ, zero, suc, _+_, _≤_}
+use Prim.Native.Nat.{ℕ, zero, suc, _≤_}
 use native.Mathlib.Omega.{arith}
 use lib.ListN.{length}
 use Rattle.protocol.specs.Bytes.{if}
@@ -11,8 +11,8 @@ use Rattle.protocol.specs.Records.{Rec, nameOf}
 use Rattle.protocol.specs.Table.{Table, recAt}
 use Rattle.protocol.specs.Register.{registered}
 use Rattle.protocol.specs.Request.{Malformed, Given, Asked, Posted, Shown, Wanted, Request, NoPath, NotTaken, LoginGet, LoginPost, Logout, Validate, Proxy}
-use Rattle.protocol.specs.Answers.{Code, Reply, ErrorPage, SignedIn, SignedOut, FormPage, RedirectTo, YesNo, Failure, ProxySuccess, ProxyFailure, CallbackTo, InvalidRequest, InvalidTicket}
-use Rattle.protocol.specs.Steps.{Brought, Step, step, remove, slotNamed, ticketSlot, newRec, newLogin, newSession, newService, newWaiting, newProxy, add, chainFrom, chainOf, successOf, formWith, ticketWith, ticketStep, isPlain, failed, waitingWith, waitingSlot, finished, finish, proxyWith, linkTo, withoutSession, loginGet, loginPost, logout, validate, proxy, requestStep}
+use Rattle.protocol.specs.Answers.{Code, Reply, ErrorPage, FormPage, RedirectTo, YesNo, Failure, ProxySuccess, ProxyFailure, CallbackTo, InvalidRequest, InvalidTicket}
+use Rattle.protocol.specs.Steps.{Brought, Step, step, remove, slotNamed, ticketSlot, newRec, newLogin, newSession, newService, newWaiting, newProxy, add, chainFrom, chainOf, successOf, formWith, ticketWith, ticketStep, failed, waitingWith, waitingSlot, finished, finish, proxyWith, linkTo, loginGet, loginPost, logout, validate, proxy, requestStep}
 use Rattle.protocol.specs.declared.Validator.{Validator}
 use Rattle.protocol.specs.declared.Validator.the-variants as validator
 use Rattle.protocol.proofs.Laws.{part-long}

@@ -60,13 +60,9 @@ pub length-put : (k : ℕ) (x : Rec) (rs : List Rec) → length (putAt k x rs) �
 length-put zero x rs = refl
 length-put (suc k) x rs = length-set rs k x
 
-either-fits : (z : Bool) (r : Rec) → Fits r → Fits (if z r freeRec)
-either-fits true r h = h
-either-fits false r h = free-fits
-
-other-fits : (z : Bool) (r : Rec) → Fits r → Fits (if z freeRec r)
-other-fits true r h = free-fits
-other-fits false r h = h
+either-fits : (z : Bool) (r s : Rec) → Fits r → Fits s → Fits (if z r s)
+either-fits true r s h g = h
+either-fits false r s h g = g
 
 pub tick-sound : (time : ℕ) (t : Table) → time ≤ lastTime → Sound t → Sound (tick time t)
 unfolding tick
@@ -74,7 +70,7 @@ tick-sound time t h s =
     record {
       rules = tick-rules time t h (s .rules);
       next = s .next;
-      fit = fit-map (clearRec (max (t .clock) time)) (λ r f. either-fits (live (max (t .clock) time) r) r f) (t .slots) (s .fit);
+      fit = fit-map (clearRec (max (t .clock) time)) (λ r f. either-fits (live (max (t .clock) time) r) r freeRec f free-fits) (t .slots) (s .fit);
       few = rw (length-map (t .slots) (clearRec (max (t .clock) time))) (s .few);
     }
 
@@ -93,7 +89,7 @@ end-sound k t p e s =
     record {
       rules = end-rules k t p e (s .rules);
       next = s .next;
-      fit = fit-put freeRec free-fits k (map (endRec k) (t .slots)) (fit-map (endRec k) (λ r f. other-fits (eqb (r .session) k) r f) (t .slots) (s .fit));
+      fit = fit-put freeRec free-fits k (map (endRec k) (t .slots)) (fit-map (endRec k) (λ r f. either-fits (eqb (r .session) k) freeRec r free-fits f) (t .slots) (s .fit));
       few = rw (length-put k freeRec (map (endRec k) (t .slots)), length-map (t .slots) (endRec k)) (s .few);
     }
 
@@ -176,25 +172,15 @@ pub record Kind (kind : ℕ) (random : List ℕ) : Type 0 where
   pub lasts : 1 ≤ lifetime kind
 
 module _ (random : List ℕ) (h : length random ≡ 48) where
-  pub login-kind : Kind 1 random
+  pub new-kind : (kind : ℕ) → 1 ≤ kind → kind ≤ 5 → Kind kind random
   unfolding secretFrom iouFrom allWithin
-  login-kind = record { known = omega arith; taken = refl; rest = short-tail random h; iou = refl; lasts = omega arith }
-
-  pub session-kind : Kind 2 random
-  unfolding secretFrom iouFrom allWithin
-  session-kind = record { known = omega arith; taken = refl; rest = long-tail random h; iou = refl; lasts = omega arith }
-
-  pub service-kind : Kind 3 random
-  unfolding secretFrom iouFrom allWithin
-  service-kind = record { known = omega arith; taken = refl; rest = short-tail random h; iou = refl; lasts = omega arith }
-
-  pub proxy-kind : Kind 4 random
-  unfolding secretFrom iouFrom allWithin
-  proxy-kind = record { known = omega arith; taken = refl; rest = short-tail random h; iou = refl; lasts = omega arith }
-
-  pub waiting-kind : Kind 5 random
-  unfolding secretFrom iouFrom allWithin
-  waiting-kind = record { known = omega arith; taken = refl; rest = long-tail random h; iou = refl; lasts = omega arith }
+  new-kind zero a b = absurd (omega arith)
+  new-kind (suc zero) a b = record { known = omega arith; taken = refl; rest = short-tail random h; iou = refl; lasts = omega arith }
+  new-kind (suc (suc zero)) a b = record { known = omega arith; taken = refl; rest = long-tail random h; iou = refl; lasts = omega arith }
+  new-kind (suc (suc (suc zero))) a b = record { known = omega arith; taken = refl; rest = short-tail random h; iou = refl; lasts = omega arith }
+  new-kind (suc (suc (suc (suc zero)))) a b = record { known = omega arith; taken = refl; rest = short-tail random h; iou = refl; lasts = omega arith }
+  new-kind (suc (suc (suc (suc (suc zero))))) a b = record { known = omega arith; taken = refl; rest = long-tail random h; iou = refl; lasts = omega arith }
+  new-kind (suc (suc (suc (suc (suc (suc k)))))) a b = absurd (omega arith)
 
 -- its own serial is issued by being taken
 serial-taken : (n : ℕ) → 1 ≤ n → n < 4294967296 → serialRight ((n + 1) % 4294967296) n ≡ true

@@ -1,24 +1,22 @@
 -- Every step keeps a sound table sound, by cases over its courses. Assumes nothing.
 use mathlib.Core.Path.{_≡_, refl}
-use mathlib.Core.Bool.{Bool, true, false}
+use mathlib.Core.Bool.{Bool, true}
 use mathlib.Core.List.{List}
 use Prim.Native.Nat.{ℕ, zero, suc, _≤_}
 use native.Mathlib.Omega.{arith}
 use lib.ListN.{length}
 use Rattle.protocol.specs.Utf8.{nameRight}
-use Rattle.protocol.specs.Bytes.{isEmpty}
 use Rattle.protocol.specs.Tickets.{aLogin, aSession, aGrant}
-use Rattle.protocol.specs.Records.{Rec}
 use Rattle.protocol.specs.Table.{Table, recAt}
 use Rattle.protocol.specs.Request.{Malformed, Given, Asked, Posted, Shown, Wanted, Request, NoPath, NotTaken, LoginGet, LoginPost, Logout, Validate, Proxy}
-use Rattle.protocol.specs.Steps.{Brought, Step, remove, slotNamed, sessionOf, slotFor, ticketSlot, newRec, newSession, expiryFor, add, formWith, ticketWith, ticketStep, proxyParent, leftBy, waitingWith, waitingSlot, finished, finish, proxyWith, loginGet, loginPost, logout, validate, proxy, requestStep}
+use Rattle.protocol.specs.Steps.{Brought, Step, remove, slotNamed, sessionOf, slotFor, ticketSlot, newRec, newSession, expiryFor, add, formWith, ticketWith, ticketStep, waitingWith, waitingSlot, finished, finish, proxyWith, loginGet, loginPost, logout, validate, proxy, requestStep}
 use Rattle.protocol.specs.declared.Validator.{Validator}
 use Rattle.protocol.proofs.Laws.{mark-most}
 use Rattle.protocol.proofs.Kept.{put-same}
 use Rattle.protocol.proofs.Added.{Room}
-use Rattle.protocol.proofs.Searches.{Live, slot-live, Ticket, filled}
+use Rattle.protocol.proofs.Searches.{Live, slot-live, filled}
 use Rattle.protocol.proofs.Proper.{Plain, ProperPost, Proper}
-use Rattle.protocol.proofs.Courses.{FormCourse, shows, no-form, AdmitCourse, signed-in, tickets, StandCourse, stands, no-ticket, OpenCourse, opens, no-session, GetCourse, unknown, standing-by, away, form-shown, get-course, AcceptedCourse, fresh, kept, changed, PostCourse, again, enters, post-course, AcceptCourse, plainly, calls, tells, RuledCourse, burns, accepts, ShownCourse, lacks, none, spends, shown-course, FinishCourse, raises, drops, finish-course, ProxyCourse, fails, issues, proxy-course, LeaveCourse, stays, ends, leave-course}
+use Rattle.protocol.proofs.Courses.{FormCourse, shows, no-form, AdmitCourse, signed-in, tickets, StandCourse, stands, no-ticket, OpenCourse, opens, no-session, GetCourse, unknown, standing-by, away, form-shown, get-course, AcceptedCourse, fresh, kept, changed, PostCourse, again, enters, post-course, AcceptCourse, plainly, calls, tells, burns, accepts, ShownCourse, lacks, none, spends, shown-course, FinishCourse, raises, drops, finish-course, ProxyCourse, fails, issues, proxy-course, LeaveCourse, stays, ends, leave-course}
 use Rattle.protocol.proofs.Sound.{Sound, end-sound}
 use Rattle.protocol.proofs.NewSound.{Base, owned, login-sound, session-sound, service-sound, waiting-sound, proxy-ticket-sound}
 use Rattle.protocol.proofs.TurnSound.{spend-sound, spent-sound, granting, turned-sound, left-sound, left-base}

@@ -78,9 +78,6 @@ module _ (x : Rec) (a : eqb (x .kind) 0 ≡ false) where
   differ-kept (r ∷ rs) zero b e = rw (a, b, e)
   differ-kept (r ∷ rs) (suc i) b e = rw (taken-kept (r .serial) rs i b e, differ-kept rs i b e)
 
-no-login : (k : ℕ) → 2 ≤ k → _≡_ {A = ℕ} (if (eqb k aLogin) 1 0) 0
-no-login k e = rw (ne-eqb k 1 (λ q. omega arith))
-
 -- a record of the same serial, session and parent may take the place of one that no other names
 pub record Change (t : Table) (k : ℕ) (new : Rec) : Type 0 where
   pub leaf : Unnamed k (t .slots)
@@ -111,7 +108,7 @@ module _ (t : Table) (s : Sound t) (k : ℕ) (p : 1 ≤ k) (new : Rec) (c : Chan
 
   few-logins : (j : ℕ) → countKind aLogin (putAt j new (t .slots)) ≤ countKind aLogin (t .slots)
   few-logins zero = omega arith
-  few-logins (suc j) = omega (arith, count-set aLogin new (t .slots) j, no-login (new .kind) (c .kind))
+  few-logins (suc j) = let z : _≡_ {A = ℕ} (if (eqb (new .kind) aLogin) 1 0) 0 = rw (ne-eqb (new .kind) 1 (λ q. omega (arith, c .kind))) in omega (arith, count-set aLogin new (t .slots) j)
 
   pub changed-sound : Sound (put k new t)
   changed-sound =
@@ -170,9 +167,9 @@ module _ (t : Table) (s : Sound t) (k : ℕ) (p : 1 ≤ k) {a b : ℕ} (w : Turn
   abbrev new : Rec
   new = turned b old (t .slots)
 
-  from : Turn a b → (3 ≤ old .kind) × (old .kind ≡ 6 → ⊥)
-  from (granting x y) = (omega arith, λ e. omega arith)
-  from (visiting x y) = (omega arith, λ e. omega arith)
+  from : Turn a b → (3 ≤ old .kind) × (old .kind ≡ 6 → ⊥) × (2 ≤ b)
+  from (granting x y) = (omega arith, (λ e. omega arith), omega arith)
+  from (visiting x y) = (omega arith, (λ e. omega arith), omega arith)
 
   new-facts : (new .kind ≡ b) × (new .session ≡ old .session) × (new .parent ≡ old .parent) × (new .serial ≡ old .serial) × (new .expiry ≡ recAt (old .session) (t .slots) .expiry)
   unfolding turned
@@ -215,10 +212,6 @@ module _ (t : Table) (s : Sound t) (k : ℕ) (p : 1 ≤ k) {a b : ℕ} (w : Turn
       let g = fit-slot (t .slots) (old .session) (s .fit) in
       record { parent = f .parent; session = f .session; serial = f .serial; expiry = g .expiry; since = f .since; sized = record { secret = f .sized .secret; text = f .sized .text; iou = refl } }
 
-  into : Turn a b → 2 ≤ b
-  into (granting x y) = omega arith
-  into (visiting x y) = omega arith
-
   pub turned-sound : Sound (put k new t)
   turned-sound =
       let n = new-facts in
@@ -228,7 +221,7 @@ module _ (t : Table) (s : Sound t) (k : ℕ) (p : 1 ≤ k) {a b : ℕ} (w : Turn
       (record {
         leaf = leaf-unnamed (t .clock) (t .next) (t .slots) (s .rules .records) k p (λ e. omega (arith, f .0)) (f .1);
         held = λ e. omega (arith, f .0);
-        kind = omega (arith, n .0, into w);
+        kind = omega (arith, n .0, f .2);
         serial = n .3;
         session = n .1;
         parent = n .2;

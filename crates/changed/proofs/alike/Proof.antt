@@ -12,16 +12,8 @@ Inv-loop a b good₀ i₀ good i = Agreed a b good i
 abbrev μ-loop : tie.MeasureT-loop
 μ-loop a b good₀ i₀ good i = length a - i
 
-loop-holds : tie.Need-loop-holds Inv-loop μ-loop
-loop-holds c = search (needs, agree-start)
-
-loop-again : tie.Need-loop-again Inv-loop μ-loop
-loop-again c = search (needs, agree-next)
-
-returns : tie.Need-returns Inv-loop μ-loop
-returns c = search (needs, agree-all)
-
 pub alike-spec : {M : Type 1} → statement M
 alike-spec =
     tie.close
-    (tie.spec Inv-loop μ-loop loop-holds (λ c. search needs) (λ c. search needs) (λ c. search needs) (λ c. search needs) loop-again returns)
+    (tie.spec Inv-loop μ-loop (λ c. search (needs, agree-start)) (λ c. search needs) (λ c. search needs) (λ c. search needs) (λ c. search needs)
+    (λ c. search (needs, agree-next)) (λ c. search (needs, agree-all)))

@@ -16,14 +16,9 @@ Inv-loop old new out₀ at m to₀ k₀ out to k =
 abbrev μ-loop : tie.MeasureT-loop
 μ-loop old new out₀ at m to₀ k₀ out to k = m - k
 
-loop-holds : tie.Need-loop-holds Inv-loop μ-loop
-loop-holds c = (search needs, search needs, search needs, search needs, search (needs, blocks-start))
-
-loop-again : tie.Need-loop-again Inv-loop μ-loop
-loop-again c = (search needs, search needs, search needs, search needs, search (needs, blocks-turn))
-
 pub put-blocks-spec : {M : Type 1} → statement M
 put-blocks-spec =
     tie.close
-    (tie.spec Inv-loop μ-loop loop-holds (λ c κs. search needs) (λ c. search needs) (λ c. search needs) loop-again (λ c. search needs)
-    (λ c. search (needs, blocks-done)))
+    (tie.spec Inv-loop μ-loop (λ c. (search needs, search needs, search needs, search needs, search (needs, blocks-start))) (λ c κs. search needs)
+    (λ c. search needs) (λ c. search needs) (λ c. (search needs, search needs, search needs, search needs, search (needs, blocks-turn)))
+    (λ c. search needs) (λ c. search (needs, blocks-done)))

@@ -12,13 +12,8 @@ Inv-loop buf₀ v i₀ buf i = (length buf ≡ length buf₀) × (i ≤ length b
 abbrev μ-loop : tie.MeasureT-loop
 μ-loop buf₀ v i₀ buf i = length buf - i
 
-loop-again : tie.Need-loop-again Inv-loop μ-loop
-loop-again c = simp length-set (omega arith, omega arith)
-
-loop-less : tie.Need-loop-less Inv-loop μ-loop
-loop-less c = simp length-set (omega arith)
-
 pub fill-spec : {M : Type 1} → statement M
 fill-spec =
     tie.close
-    (tie.spec Inv-loop μ-loop (λ c. (refl, omega arith)) (λ c. omega arith) (λ c. omega arith) loop-less loop-again (λ c. omega arith) (λ c. tt))
+    (tie.spec Inv-loop μ-loop (λ c. (refl, omega arith)) (λ c. omega arith) (λ c. omega arith) (λ c. simp length-set (omega arith))
+    (λ c. simp length-set (omega arith, omega arith)) (λ c. omega arith) (λ c. tt))

@@ -6,8 +6,5 @@ use lib.Seq.{length-take-le}
 use Rattle.lent.proofs.front.Statement.{statement}
 use Rattle.lent.proofs.front.Tie as tie
 
-slice-aggregate-result : tie.Need-slice-aggregate-result
-slice-aggregate-result c = sym (length-take-le _ _ (omega arith))
-
 pub front-spec : {M : Type 1} → statement M
-front-spec = tie.close (tie.spec slice-aggregate-result (λ c. search needs))
+front-spec = tie.close (tie.spec (λ c. sym (length-take-le _ _ (omega arith))) (λ c. search needs))

@@ -9,11 +9,8 @@ use Rattle.table_judge.proofs.blocks_lawful.Tie as tie
 bytes : (c : tie.After-shared-slice-known) → Bytes (c .before .args .table .now)
 bytes c = record { each = λ i. c .shared-slice-known .given i .fits }
 
-slots-right-requires : tie.Need-slots-right-requires
-slots-right-requires c κs = (search needs, search clock-low, search needs)
-
 pub blocks-lawful-spec : {M : Type 1} → statement M
 blocks-lawful-spec =
     tie.close
-    (tie.spec (search needs) (search needs) (search needs) (search needs) (search needs) slots-right-requires (search needs)
-    (λ c. search (table-right, bytes)) (λ c. search (table-wrong, bytes)))
+    (tie.spec (search needs) (search needs) (search needs) (search needs) (search needs) (λ c κs. (search needs, search clock-low, search needs))
+    (search needs) (λ c. search (table-right, bytes)) (λ c. search (table-wrong, bytes)))

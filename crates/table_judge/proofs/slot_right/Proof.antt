@@ -5,11 +5,8 @@ use borrow.Author.Needs.{needs}
 use Rattle.table_judge.proofs.slot_right.Statement.{statement}
 use Rattle.table_judge.proofs.slot_right.Tie as tie
 
-serial-alone-requires : tie.Need-serial-alone-requires
-serial-alone-requires c κs = (search needs, search needs, search fields-said)
-
 pub slot-right-spec : {M : Type 1} → statement M
 slot-right-spec =
     tie.close
     (tie.spec (λ c κs. search slot-in) (search needs) (search needs) (search needs) (search needs) (search needs) (λ c κs. search needs)
-    (search needs) (search needs) (search needs) serial-alone-requires (λ c. search (slot-right, fields-said)))
+    (search needs) (search needs) (search needs) (λ c κs. (search needs, search needs, search fields-said)) (λ c. search (slot-right, fields-said)))

@@ -4,8 +4,5 @@ use borrow.Author.Needs.{needs}
 use Rattle.table_judge.proofs.table_lawful.Statement.{statement}
 use Rattle.table_judge.proofs.table_lawful.Tie as tie
 
-blocks-lawful-requires : tie.Need-blocks-lawful-requires
-blocks-lawful-requires c κs = (search shape-whole, search shape-low, search shape-high)
-
 pub table-lawful-spec : {M : Type 1} → statement M
-table-lawful-spec = tie.close (tie.spec blocks-lawful-requires (λ c. search needs))
+table-lawful-spec = tie.close (tie.spec (λ c κs. (search shape-whole, search shape-low, search shape-high)) (λ c. search needs))

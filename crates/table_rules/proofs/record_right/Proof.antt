@@ -9,11 +9,8 @@ use Rattle.table_rules.proofs.record_right.Tie as tie
 bytes : (c : tie.After-shared-slice-known) → Bytes (c .before .args .block .now)
 bytes c = record { each = λ i. c .shared-slice-known .given i .fits }
 
-text-right-requires : tie.Need-text-right-requires
-text-right-requires c κs = (search needs, search limits-short)
-
 pub record-right-spec : {M : Type 1} → statement M
 record-right-spec =
     tie.close
-    (tie.spec (search needs) (search needs) (search needs) (search needs) text-right-requires (search needs) (search needs) (search needs)
-    (λ c. search (record-right, bytes)) (λ c. search record-wrong))
+    (tie.spec (search needs) (search needs) (search needs) (search needs) (λ c κs. (search needs, search limits-short)) (search needs) (search needs)
+    (search needs) (λ c. search (record-right, bytes)) (λ c. search record-wrong))

@@ -6,9 +6,10 @@ use Rattle.pipe.proofs.answer_frame.answer_told.Tie as tie
 
 returns : tie.Need-returns
 returns c =
-    let called = c .before .before .before .before .before .before .before .before in
+    let told = c .before .before .before in
+    let called = told .before .before .before .before .before in
     let kept = called .before .before .before in
-    told-call _ _ _ _ _ (kept .put-bytes .ensures) (c .before .before .before .front .ensures) (c .put-changed .ensures)
+    told-call _ _ _ _ _ (kept .put-bytes .ensures) (told .front .ensures) (c .put-changed .ensures)
 
 pub answer-told-spec : {M : Type 1} → statement M
 answer-told-spec =
