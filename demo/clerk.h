@@ -65,7 +65,8 @@ static struct pass *pass_of(const char *text)
     return 0;
 }
 
-/* Passes of a session that wait, or of all sessions, meet a fate. */
+/* Passes of a session that wait, or of all sessions, meet a fate. Expired is what the time of a call says, whether or not the server has freed
+ * the slot by then. */
 static void close_waiting(enum fate fate, const struct session *session)
 {
     for (int i = 0; i < n_passes; i++)
@@ -171,6 +172,9 @@ static void clerk_hears_finish(uint64_t serial)
         trouble("a success for a callback that was not asked");
     hear_success(&showings[i]);
 }
+
+/* After a call of housekeep, of which only the time matters. */
+static void clerk_hears_housekeeping(void) { close_waiting(EXPIRED, 0); }
 
 static int fated(enum fate fate)
 {

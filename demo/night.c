@@ -229,6 +229,32 @@ static void tell_callback(uint64_t serial)
     tell_answer(panel_itself);
 }
 
+static bool expired(const uint8_t *record)
+{
+    uint64_t expiry = 0;
+    for (int i = 23; i >= 16; i--)
+        expiry = expiry << 8 | record[i];
+    return *record && expiry <= now;
+}
+
+/* The desk's tick. Gives how many slots it freed, -1 where it freed another than the expired or left one of them. */
+static int keep_house(void)
+{
+    static uint8_t before[sizeof table];
+    int freed = 0;
+    memcpy(before, table, sizeof table);
+    now++;
+    outcome[PYHTIRSO_REFUSAL] = pyhtirso_housekeep(table, sizeof table, now);
+    clerk_hears_housekeeping();
+    for (size_t at = BLOCK; at < sizeof table; at += BLOCK) {
+        if (expired(before + at) ? table[at] : memcmp(before + at, table + at, BLOCK))
+            return -1;
+        freed += expired(before + at);
+    }
+    printf("%s  the desk keeps house:\n          server:    %d slots are free again\n", clock_text(now), freed);
+    return freed;
+}
+
 /* The pass in the redirect or the proxy answer just given. */
 static void take_pass(char *into)
 {
@@ -365,6 +391,8 @@ static void ann_dozes_off(void)
     now += PASS_LASTS - 1;
     ask("The gate panel", panel_itself, "/cas/serviceValidate?service=" GATE "&ticket=%s", pass);
     means(says(XML, 200, FAILURE("INVALID_TICKET")), "Five minutes later, to the second, it has expired.");
+    means(keep_house() == 3 && !outcome[PYHTIRSO_REFUSAL] && !pyhtirso_check(table, sizeof table),
+          "The expired pass and two forms that nobody sent back no longer take room. Every other record is as it was.");
 }
 
 static void a_byte_goes_bad(void)

@@ -1,4 +1,4 @@
-/* Pyhtirso's eight calls, for a host in C or C++. Link with libexport.a (`rt staticlib export` writes it, for x86-64).
+/* Pyhtirso's nine calls, for a host in C or C++. Link with libexport.a (`rt staticlib export` writes it, for x86-64).
  * docs/HOST.md has a worked run, docs/RULES.md the rules and every format.
  *
  * Every slice is a pointer and a length. Where the length is 0 the pointer may be any, null too: nothing is read or written through it.
@@ -17,7 +17,7 @@ extern "C" {
 #endif
 
 /* The version of this header. It rises where a call, a number or a format changes. */
-#define PYHTIRSO_VERSION 1
+#define PYHTIRSO_VERSION 2
 
 /* Bytes of stack that a call takes at most, its arguments included. Measured, not proved: docs/FIGURES.md. */
 #define PYHTIRSO_STACK 4096
@@ -106,6 +106,11 @@ bool pyhtirso_answer(uint8_t *table, size_t table_len, const uint8_t *panels, si
  * cookie and serial places are 0. */
 bool pyhtirso_finish(uint8_t *table, size_t table_len, uint32_t serial, bool ok, uint64_t time, uint8_t *out, size_t out_len,
                      uint64_t *outcome, size_t outcome_len);
+
+/* Keeps house at a time (1, 2, 6): the table's clock is moved as answer moves it, and each record whose expiry it has reached is freed; gives
+ * the refusal number. No other call frees a record because it has expired: until then it is dead, found by nobody, but takes its slot, and a
+ * dead login ticket counts to the 32. Call it at the start and once a minute. */
+uint32_t pyhtirso_housekeep(uint8_t *table, size_t table_len, uint64_t time);
 
 /* What a panel is to be told of sign-off (1, 2, 4, 6, 9): of the visits of the session that `cookie` names, in slot order, the one of `number`,
  * from 0. It is two lines with their feeds, the panel's service and the LogoutRequest for it, whose ID is of bytes 16-31 of `random`. The call

@@ -1,5 +1,5 @@
 /* The calls by their texts, for the test host and the demonstration: a table, the register of a gate panel that may hold grants and of a lamp
- * panel, a clock that every call but visit moves by a second, and what the last call said. */
+ * panel, a clock that every call but housekeep and visit moves by a second, and what the last call said. */
 #ifndef CLIENT_H
 #define CLIENT_H
 

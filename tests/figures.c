@@ -1,7 +1,8 @@
-/* Executed instructions of the proved archive beside the two plain C programs: one serviceValidate, one login POST, one visit and one refusal, over
- * a table of 8 and one of 127 records, all held. All programs get the same bytes, and after each call all that they may write is compared.
- * Instructions are counted by the processor's trap flag: a signal after each one, natively as under an emulator.
- * With an argument it only compares: each way through the three steps, with serials and dates as they are usual and with the longest. */
+/* Executed instructions of the proved archive beside the two plain C programs: one serviceValidate, one login POST, one housekeeping, one visit and
+ * one refusal, over a table of 8 and one of 127 records, all held but one, the dead among them. All programs get the same bytes, and after each
+ * call all that they may write is compared. Instructions are counted by the processor's trap flag: a signal after each one, natively as under an
+ * emulator. With an argument it only compares: each way through what the plain programs know, with serials and dates as they are usual and with
+ * the longest. */
 #include "common.h"
 #include "plain.h"
 #include <signal.h>
@@ -19,39 +20,53 @@ static int failed;
 
 struct program {
     __typeof__(pyhtirso_answer) *answer;
+    __typeof__(pyhtirso_finish) *finish;
+    __typeof__(pyhtirso_housekeep) *housekeep;
     __typeof__(pyhtirso_visit) *visit;
 };
 
 struct lent {
     uint8_t table[MOST], out[OUT], cookie_out[COOKIE];
-    uint64_t outcome[PYHTIRSO_OUTCOME]; /* a visit's numbers are its first */
+    uint64_t outcome[PYHTIRSO_OUTCOME]; /* a visit's numbers are its first, and so is housekeeping's one */
 };
 
+enum call { ANSWER, FINISH, HOUSEKEEP, TELL_VISIT };
+
 struct asked {
+    enum call call;
     int records;
-    bool visit, post;
+    bool post;
     char target[512], body[512], cookie[COOKIE];
-    bool verdict;
-    uint32_t number;
+    bool verdict;    /* of a password, or of a callback */
+    uint32_t number; /* of a callback, or of a visit */
     uint64_t time;
 };
 
-static const struct program of_archive = { pyhtirso_answer, pyhtirso_visit }, of_plain = { plain_answer, plain_visit },
-                            of_whole = { whole_answer, whole_visit };
+static const struct program of_archive = { pyhtirso_answer, pyhtirso_finish, pyhtirso_housekeep, pyhtirso_visit },
+                            of_plain = { plain_answer, plain_finish, plain_housekeep, plain_visit },
+                            of_whole = { whole_answer, whole_finish, whole_housekeep, whole_visit };
 static struct lent proved, plain, whole;
 static struct lent *const all[] = { &proved, &plain, &whole };
+static const struct program *const programs[] = { &of_archive, &of_plain, &of_whole }; /* whose each is */
 
 static bool ask(const struct program *p, struct lent *l, const struct asked *a)
 {
-    if (a->visit)
-        return p->visit(l->table, (size_t)(a->records + 1) * BLOCK, (const uint8_t *)a->cookie, strlen(a->cookie), a->number, a->time,
-                        random_bytes, RANDOM, l->out, OUT, l->outcome, PYHTIRSO_VISIT);
-    return p->answer(l->table, (size_t)(a->records + 1) * BLOCK, panels, sizeof panels, a->post, (const uint8_t *)a->target, strlen(a->target),
-                     (const uint8_t *)a->body, strlen(a->body), (const uint8_t *)a->cookie, strlen(a->cookie), a->time, random_bytes, RANDOM,
-                     a->verdict, l->out, OUT, l->cookie_out, COOKIE, l->outcome, PYHTIRSO_OUTCOME);
+    size_t table_len = (size_t)(a->records + 1) * BLOCK;
+    if (a->call == FINISH)
+        return p->finish(l->table, table_len, a->number, a->verdict, a->time, l->out, OUT, l->outcome, PYHTIRSO_OUTCOME);
+    if (a->call == HOUSEKEEP) {
+        l->outcome[0] = p->housekeep(l->table, table_len, a->time);
+        return true;
+    }
+    if (a->call == TELL_VISIT)
+        return p->visit(l->table, table_len, (const uint8_t *)a->cookie, strlen(a->cookie), a->number, a->time, random_bytes, RANDOM, l->out, OUT,
+                        l->outcome, PYHTIRSO_VISIT);
+    return p->answer(l->table, table_len, panels, sizeof panels, a->post, (const uint8_t *)a->target, strlen(a->target), (const uint8_t *)a->body,
+                     strlen(a->body), (const uint8_t *)a->cookie, strlen(a->cookie), a->time, random_bytes, RANDOM, a->verdict, l->out, OUT,
+                     l->cookie_out, COOKIE, l->outcome, PYHTIRSO_OUTCOME);
 }
 
-/* ---- a table whose slots are all held */
+/* ---- a table whose slots are all held but one */
 
 static void put_number(uint8_t *p, int width, uint64_t v)
 {
@@ -83,8 +98,23 @@ static void put_record(uint8_t *table, int slot, int kind, int mark, int parent,
     seal(r);
 }
 
-/* Groups of a session with its grant, proxy ticket, waiting grant, a login and a visit; then the login ticket and the service ticket that are
- * presented. The first group's login expires when the call is made, and its last record is a service ticket. */
+/* The record in a slot, of a group of six: a session that ends at a time, its grant, proxy ticket and waiting grant, a login, its visit. */
+static void put_member(uint8_t *table, int slot, uint64_t end)
+{
+    int role = (slot - 1) % 6, first = slot - role;
+    uint64_t soon = end < T + 200 ? end : T + 200;
+    switch (role) {
+    case 0: put_record(table, slot, SESSION, 0, 0, 0, 0, end, "ann"); break;
+    case 1: put_record(table, slot, GRANT, 0, 0, first, 1, end, callback); break;
+    case 2: put_record(table, slot, PROXY, 0, first + 1, first, 0, soon, lamp); break;
+    case 3: put_record(table, slot, WAITING, 1, first + 1, first, 2, T + 50, "https://lamp.lan/cb"); break;
+    case 4: put_record(table, slot, LOGIN, 0, 0, 0, 0, end < T + 400 ? end : T + 400, ""); break;
+    default: put_record(table, slot, VISIT, 0, first, first, 0, end, gate);
+    }
+}
+
+/* Groups, then the login ticket and the service ticket that are presented. In the first group the waiting grant is dead already, no login
+ * stands, and the last record is a service ticket; the second group's login is dead when the call is made. */
 static void fill(uint8_t *table, int records)
 {
     memset(table, 0, MOST);
@@ -94,17 +124,14 @@ static void fill(uint8_t *table, int records)
     put_number(table + 8, 8, T);
     put_number(table + 16, 4, first_serial + 200);
     seal(table);
-    for (int k = 1; k <= records - 2; k++) {
-        int role = (k - 1) % 6, first = k - role;
-        switch (role) {
-        case 0: put_record(table, k, SESSION, 0, 0, 0, 0, T + 20000, "ann"); break;
-        case 1: put_record(table, k, GRANT, 0, 0, first, 1, T + 20000, callback); break;
-        case 2: put_record(table, k, PROXY, 0, first + 1, first, 0, T + 200, lamp); break;
-        case 3: put_record(table, k, WAITING, 1, first + 1, first, 2, T + 50, "https://lamp.lan/cb"); break;
-        case 4: put_record(table, k, LOGIN, 0, 0, 0, 0, T + (k == 5 ? 10 : 400), ""); break;
-        default: put_record(table, k, k == 6 ? SERVICE : VISIT, 0, first, first, 0, T + (k == 6 ? 250 : 20000), gate);
-        }
-    }
+    for (int k = 1; k <= records - 2; k++)
+        put_member(table, k, T + 20000);
+    put_record(table, 4, WAITING, 1, 2, 1, 2, T, "https://lamp.lan/cb");
+    memset(table + 5 * BLOCK, 0, BLOCK);
+    seal(table + 5 * BLOCK);
+    put_record(table, 6, SERVICE, 0, 1, 1, 0, T + 250, gate);
+    if (records > 12)
+        put_record(table, 11, LOGIN, 0, 0, 0, 0, T + 10, "");
     put_record(table, records - 1, LOGIN, 0, 0, 0, 0, T + 500, "");
     put_record(table, records, SERVICE, 1, 1, 1, 0, T + 200, gate);
 }
@@ -163,6 +190,36 @@ static void set(int slot, int at, int width, uint64_t v)
     }
 }
 
+/* The free slot is held by a login. */
+static void hold(uint64_t expiry)
+{
+    for (int i = 0; i < 3; i++)
+        put_record(all[i]->table, 5, LOGIN, 0, 0, 0, 0, expiry, "");
+}
+
+/* Visits give way to dead logins until 32 logins are held, as far as there are slots. */
+static void crowd(int records)
+{
+    int logins = 0;
+    for (int k = 1; k <= records; k++)
+        logins += proved.table[k * BLOCK] == LOGIN;
+    for (int k = 12; k <= records - 2 && logins < 32; k += 6, logins++)
+        for (int i = 0; i < 3; i++)
+            put_record(all[i]->table, k, LOGIN, 0, 0, 0, 0, T, "");
+}
+
+/* The session in a slot ends in a minute, with all that names it. */
+static void age(int first, int records)
+{
+    for (int i = 0; i < 3; i++) {
+        for (int k = first; k < first + 6; k++)
+            if (k != 5)
+                put_member(all[i]->table, k, T + 60);
+        if (first == 1)
+            put_record(all[i]->table, records, SERVICE, 1, 1, 1, 0, T + 60, gate);
+    }
+}
+
 /* The service ticket in a slot has been accepted. */
 static void turn(int slot)
 {
@@ -174,13 +231,60 @@ static void turn(int slot)
 /* The session in a slot; that of the first has two visits, the second of them in the last slot. */
 static struct asked visiting(int records, int cookie, uint32_t number)
 {
-    struct asked a = { .records = records, .visit = true, .number = number, .time = T + 10 };
+    struct asked a = { .call = TELL_VISIT, .records = records, .number = number, .time = T + 10 };
     fresh(records);
     turn(6);
     turn(records);
     if (cookie)
         snprintf(a.cookie, sizeof a.cookie, "%s", name(proved.table, cookie, "TGC-"));
     return a;
+}
+
+static struct asked logging_out(int records, int cookie, const char *query)
+{
+    struct asked a = { .records = records, .time = T + 10 };
+    fresh(records);
+    if (cookie)
+        snprintf(a.cookie, sizeof a.cookie, "%s", name(proved.table, cookie, "TGC-"));
+    snprintf(a.target, sizeof a.target, "/cas/logout%s", query);
+    return a;
+}
+
+/* The grant in a slot is shown. */
+static struct asked proxying(int records, int slot, const char *more)
+{
+    struct asked a = { .records = records, .time = T + 10 };
+    fresh(records);
+    snprintf(a.target, sizeof a.target, "/cas/proxy?pgt=%s%s", name(proved.table, slot, "PGT-"), more);
+    return a;
+}
+
+/* The callback of the waiting grant in a slot, the first of which has its full time. */
+static struct asked finishing(int records, int slot, bool ok)
+{
+    struct asked a = { .call = FINISH, .records = records, .verdict = ok, .number = first_serial + (uint32_t)slot, .time = T + 10 };
+    fresh(records);
+    set(4, 16, 8, T + 60);
+    return a;
+}
+
+/* Every other group dies, with one login at least that lives. */
+static struct asked keeping_house(int records)
+{
+    struct asked a = { .call = HOUSEKEEP, .records = records, .time = T + 60 };
+    fresh(records);
+    hold(T + 60);
+    for (int first = 1; first + 5 <= records - 2; first += 12)
+        age(first, records);
+    return a;
+}
+
+/* House is kept before the call. */
+static void tidy(int records, uint64_t time)
+{
+    const struct asked a = { .call = HOUSEKEEP, .records = records, .time = time };
+    for (int i = 0; i < 3; i++)
+        ask(programs[i], all[i], &a);
 }
 
 /* ---- the programs compared */
@@ -196,12 +300,13 @@ static void hold_equal(const char *what)
 
 static void compare(const char *what, const struct asked *a)
 {
-    if (!ask(&of_archive, &proved, a) || !ask(&of_plain, &plain, a) || !ask(&of_whole, &whole, a))
-        printf("NOT KNOWN: %s\n", what), failed++;
+    for (int i = 0; i < 3; i++)
+        if (!ask(programs[i], all[i], a))
+            printf("NOT KNOWN: %s\n", what), failed++;
     hold_equal(what);
 }
 
-/* Each way through the three steps once, so that the plain program is known to be of the same steps. */
+/* Each way through the steps once, so that the plain program is known to be of the same steps. */
 static int compare_ways(int records)
 {
     static const char coded[] = "https%3A%2F%2Fgate.lan%2Fp";
@@ -264,10 +369,13 @@ static int compare_ways(int records)
     WAY(signing_in(records, "", coded, true, 1), (void)0);
     WAY(signing_in(records, "ann", "https://other.lan/", true, 1), (void)0);
     WAY(signing_in(records, "ann", "%0a", true, 1), (void)0);
-    WAY(signing_in(records, "ann", coded, true, 0), a.time = T);
+    WAY(signing_in(records, "ann", coded, true, 0), hold(T + 400)); /* no slot for the ticket */
+    WAY(signing_in(records, "ann", coded, true, 0), hold(T));       /* nor where the dead hold it */
+    WAY(signing_in(records, "bob", coded, true, 1), hold(T));       /* but an ended session's slots are free */
     WAY(signing_in(records, "bob", coded, true, 1), a.time = T + 450);
     WAY(signing_in(records, "ann", coded, true, 1), a.time = T + 30000);
-    WAY(validating(records, coded, "&pgtUrl=https://gate.lan/cb", records, "ST-"), a.time = T); /* no slot for the grant */
+    WAY(validating(records, coded, "&pgtUrl=https://gate.lan/cb", records, "ST-"), hold(T + 400)); /* no slot for the grant */
+    WAY(validating(records, coded, "&pgtUrl=https://gate.lan/cb", records, "ST-"), hold(T));
     WAY(validating(records, coded, "", 6, "ST-"), turn(6));
     WAY(signing_in(records, "ann", coded, true, 1), turn(6));
     WAY(signing_in(records, "bob", coded, true, 1), (turn(6), turn(records)));
@@ -292,6 +400,77 @@ static int compare_ways(int records)
     WAY(visiting(records, 1, 1), set(6, 16, 8, T + 19999));
     WAY(visiting(records, 1, 1), set(6, 33, 1, 1));
     WAY(visiting(records, 1, 1), set(6, 40, 2, 0));
+    WAY(validating(records, coded, "", records, "ST-"), a.time = T + 199); /* a ticket's last second, and the first after it */
+    WAY(validating(records, coded, "", records, "ST-"), a.time = T + 200);
+    WAY(validating(records, lamp, "", 3, "PT-"), a.time = T + 200);
+    WAY(validating(records, coded, "", 4, "PGT-"), (void)0);
+    WAY(validating(records, coded, "", records, "ST-"), set(records, 16, 8, T)); /* dead in the table as it comes */
+    WAY(validating(records, coded, "", records, "ST-"), set(records, 16, 8, 0));
+    WAY(validating(records, coded, "", records, "ST-"), set(records, 16, 8, T + 300));
+    WAY(validating(records, coded, "", records, "ST-"), set(records, 16, 8, T + 301)); /* longer than it may last */
+    WAY(signing_in(records, "ann", coded, true, 0), a.time = T + 499); /* a login ticket's last second, and the first after it */
+    WAY(signing_in(records, "ann", coded, true, 0), a.time = T + 500);
+    WAY(signing_in(records, "ann", coded, true, 0), (a.time = T + 500, hold(T)));
+    WAY(signing_in(records, "ann", coded, false, 0), crowd(records)); /* dead logins count to the 32 */
+    WAY(signing_in(records, "ann", coded, false, 0), (crowd(records), a.time = T + 500));
+    WAY(signing_in(records, "ann", coded, false, 0), (crowd(records), a.time = T + 500, tidy(records, T)));
+    WAY(signing_in(records, "ann", coded, true, 1), (age(1, records), a.time = T + 59)); /* a session's last second: kept, and ended */
+    WAY(signing_in(records, "bob", coded, true, 1), (age(1, records), a.time = T + 59));
+    WAY(signing_in(records, "ann", coded, true, 1), (age(1, records), a.time = T + 60)); /* a dead one is neither */
+    WAY(signing_in(records, "bob", coded, true, 1), (age(1, records), a.time = T + 60));
+    WAY(signing_in(records, "bob", coded, true, 1), (age(1, records), hold(T), a.time = T + 60));
+    WAY(signing_in(records, "bob", coded, true, 1), (age(1, records), hold(T), a.time = T + 60, tidy(records, T + 60)));
+    WAY(validating(records, coded, "", records, "ST-"), (age(1, records), a.time = T + 60));
+    WAY(validating(records, coded, "&pgtUrl=https://gate.lan/cb", records, "ST-"), (age(1, records), a.time = T + 59));
+    WAY(validating(records, coded, "&pgtUrl=https://gate.lan/cb", records, "ST-"), (hold(T), tidy(records, T + 10)));
+    WAY(visiting(records, 1, 0), (age(1, records), a.time = T + 59));
+    WAY(visiting(records, 1, 0), (age(1, records), a.time = T + 60));
+    WAY(visiting(records, 1, 0), (age(1, records), tidy(records, T + 60)));
+    WAY(visiting(records, 1, 1), tidy(records, T + 19999));
+    WAY(logging_out(records, 1, ""), (void)0);
+    WAY(logging_out(records, 0, "?url=https%3A%2F%2Fgate.lan%2Fp"), (void)0);
+    WAY(logging_out(records, 1, "?url=https://other.lan/&service=%"), (void)0);
+    WAY(logging_out(records, 1, "?url=%"), (void)0);
+    WAY(logging_out(records, 1, ""), (age(1, records), a.time = T + 59)); /* the dead go with it */
+    WAY(logging_out(records, 1, ""), (age(1, records), a.time = T + 60)); /* and stay without it */
+    WAY(logging_out(records, 1, ""), (age(1, records), tidy(records, T + 60)));
+    WAY(logging_out(records, 1, ""), a.time = T + 20000);
+    WAY(proxying(records, 2, "&targetService=https://lamp.lan/"), (void)0);
+    WAY(proxying(records, 2, "&targetService=https://other.lan/"), (void)0);
+    WAY(proxying(records, 2, ""), (void)0);
+    WAY(proxying(records, 2, "&targetService=https://lamp.lan/&pgt="), (void)0);
+    WAY(proxying(records, 2, "&targetService=https://lamp.lan/"), hold(T)); /* no slot where the dead hold it */
+    WAY(proxying(records, 2, "&targetService=https://lamp.lan/"), (hold(T), tidy(records, T)));
+    WAY(proxying(records, 2, "&targetService=https://lamp.lan/"), (age(1, records), a.time = T + 59));
+    WAY(proxying(records, 2, "&targetService=https://lamp.lan/"), (age(1, records), a.time = T + 60)); /* a dead grant */
+    WAY(proxying(records, 2, "&targetService=https://lamp.lan/"), (age(1, records), tidy(records, T + 60)));
+    WAY(proxying(records, 4, "&targetService=https://lamp.lan/"), (void)0); /* one that waits, and is dead */
+    WAY(finishing(records, 4, true), (void)0);
+    WAY(finishing(records, 4, false), (void)0);
+    WAY(finishing(records, 4, true), (set(4, 2, 2, 0), set(4, 6, 1, 1))); /* without proxies */
+    WAY(finishing(records, 4, true), a.time = T + 59);
+    WAY(finishing(records, 4, true), a.time = T + 60); /* a dead one */
+    WAY(finishing(records, 4, false), a.time = T + 60);
+    WAY(finishing(records, 4, true), tidy(records, T + 60));
+    WAY(finishing(records, 4, true), hold(T));
+    WAY(finishing(records, 4, true), (age(1, records), a.time = T + 49)); /* a grant that its session leaves eleven seconds */
+    WAY(finishing(records, 3, true), (void)0);
+    WAY(finishing(records, 4, true), a.time = (1ull << 40) + 1);
+    WAY(finishing(records, 4, true), damage(records));
+    WAY(finishing(records, 4, true), a.records = 7);
+    WAY(keeping_house(records), (void)0);
+    WAY(keeping_house(records), a.time = T + 59);
+    WAY(keeping_house(records), a.time = 0);
+    WAY(keeping_house(records), a.time = T);
+    WAY(keeping_house(records), a.time = T + 400);
+    WAY(keeping_house(records), a.time = T + 19999);
+    WAY(keeping_house(records), a.time = T + 20000);
+    WAY(keeping_house(records), a.time = 1ull << 40);
+    WAY(keeping_house(records), a.time = (1ull << 40) + 1);
+    WAY(keeping_house(records), tidy(records, T + 60));
+    WAY(keeping_house(records), damage(records));
+    WAY(keeping_house(records), a.records = 7);
+    WAY(keeping_house(records), set(2, 16, 8, T)); /* a grant that ends before its session */
 #undef WAY
     return ways;
 }
@@ -327,6 +506,19 @@ static bool no_answer(uint8_t *table, size_t table_len, const uint8_t *register_
     return false;
 }
 
+static bool no_finish(uint8_t *table, size_t table_len, uint32_t serial, bool ok, uint64_t time, uint8_t *output, size_t out_len,
+                      uint64_t *numbers, size_t numbers_len)
+{
+    (void)table, (void)table_len, (void)serial, (void)ok, (void)time, (void)output, (void)out_len, (void)numbers, (void)numbers_len;
+    return false;
+}
+
+static uint32_t no_housekeep(uint8_t *table, size_t table_len, uint64_t time)
+{
+    (void)table, (void)table_len, (void)time;
+    return 0;
+}
+
 static bool no_visit(const uint8_t *table, size_t table_len, const uint8_t *cookie, size_t cookie_len, uint32_t number, uint64_t time,
                      const uint8_t *random, size_t random_len, uint8_t *output, size_t out_len, uint64_t *numbers, size_t numbers_len)
 {
@@ -335,7 +527,7 @@ static bool no_visit(const uint8_t *table, size_t table_len, const uint8_t *cook
     return false;
 }
 
-static const struct program of_nothing = { no_answer, no_visit };
+static const struct program of_nothing = { no_answer, no_finish, no_housekeep, no_visit };
 
 static void measure(const char *what, const struct asked *a)
 {
@@ -380,6 +572,8 @@ int main(int argc, char **argv)
         measure("serviceValidate, accepted", &a);
         a = signing_in(sizes[i], "ann", "https%3A%2F%2Fgate.lan%2Fp", true, 0);
         measure("login POST, accepted", &a);
+        a = keeping_house(sizes[i]);
+        measure("housekeep, all kinds freed", &a);
         a = visiting(sizes[i], 1, 1);
         measure("visit, told", &a);
         a = validating(sizes[i], "https%3A%2F%2Fgate.lan%2Fp", "", sizes[i], "ST-");

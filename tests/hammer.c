@@ -1,7 +1,8 @@
-/* A hammer: long random and mutated runs against the five calls that take a table. After each call it checks that a refused call left every
+/* A hammer: long random and mutated runs against the six calls that take a table. After each call it checks that a refused call left every
  * byte, that a table which an answered call left is sound, that lengths lie within the buffers and bytes beyond them are untouched, that no
- * ticket succeeds twice, and that visits are told of tickets that succeeded and change no table. Bounded by its two arguments: a seed and the
- * number of calls. It prints what it tried and what it found. */
+ * ticket succeeds twice or dead, that the dead stay in their slots until a session is ended or house is kept, that housekeeping frees the dead
+ * and nothing else, and that visits are told of tickets that succeeded and change no table. Bounded by its two arguments: a seed and the number
+ * of calls. It prints what it tried and what it found. */
 #include "common.h"
 
 enum { MOST = 128 * BLOCK, PANELS = 3, KEPT = 4096 };
@@ -9,7 +10,7 @@ enum { MOST = 128 * BLOCK, PANELS = 3, KEPT = 4096 };
 static uint8_t table[MOST], before[MOST], panels[16 * BLOCK], out_before[OUT], cookie_before[COOKIE];
 static size_t table_len = 9 * BLOCK, panels_len = PANELS * BLOCK;
 static uint64_t now = 1000, seed = 1;
-static long calls, answered, refused[10], issued, accepted, told, faults;
+static long calls, answered, refused[10], issued, accepted, told, kept_house, freed, faults;
 static char target[2200], body[1200], cookie[200];
 
 /* Texts that answers showed, to be shown again. */
@@ -119,6 +120,32 @@ static bool make_request(void)
     return post;
 }
 
+static uint64_t number_at(const uint8_t *p)
+{
+    uint64_t v = 0;
+    for (int i = 8; i-- > 0;)
+        v = v << 8 | p[i];
+    return v;
+}
+
+/* Whether the record that a slot held before the call is dead by the table's clock after it. */
+static bool dead(size_t slot)
+{
+    const uint8_t *r = before + slot * BLOCK;
+    return *r && number_at(r + 16) <= number_at(table + 8);
+}
+
+/* Whether a service or proxy ticket of this serial was held before the call and is not dead. */
+static bool lives(uint32_t serial)
+{
+    for (size_t k = 1; k < table_len / BLOCK; k++) {
+        const uint8_t *r = before + k * BLOCK;
+        if ((*r == 3 || *r == 4) && (uint32_t)number_at(r + 8) == serial)
+            return !dead(k);
+    }
+    return false;
+}
+
 /* The place where a ticket is kept, or -1. */
 static int place_of(const char *ticket)
 {
@@ -135,6 +162,8 @@ static void succeeded(const char *ticket)
         return;
     if (won[i])
         fault("a ticket succeeded twice");
+    if (!lives((uint32_t)strtoul(ticket + 3, 0, 10)))
+        fault("a dead ticket succeeded");
     won[i] = 1;
     accepted++;
 }
@@ -239,6 +268,16 @@ static void prepare(void)
     now += one_in(20) ? any() % 400 : any() % 3;
 }
 
+/* After a call of answer or finish that ended no session. */
+static void hold_dead(void)
+{
+    if (outcome[PYHTIRSO_REFUSAL] || outcome[PYHTIRSO_COOKIE_LENGTH] || outcome[PYHTIRSO_COOKIE_CLEARED])
+        return;
+    for (size_t k = 1; k < table_len / BLOCK; k++)
+        if (dead(k) && memcmp(before + k * BLOCK, table + k * BLOCK, BLOCK))
+            fault("a dead record did not stay");
+}
+
 static void call(void)
 {
     size_t out_len = one_in(80) ? any() % OUT : OUT, cookie_len = one_in(80) ? any() % COOKIE : COOKIE, random_len = one_in(80) ? any() % RANDOM : RANDOM;
@@ -248,6 +287,7 @@ static void call(void)
     pyhtirso_answer(table, table_len, panels, panels_len, post, (uint8_t *)target, strlen(target), (uint8_t *)body, strlen(body), (uint8_t *)cookie,
                     strlen(cookie), time, random_bytes, random_len, !one_in(5), out, out_len, cookie_out, cookie_len, outcome, PYHTIRSO_OUTCOME);
     hold(out_len, cookie_len);
+    hold_dead();
     if (time <= (1ull << 40) && time > now && !outcome[0])
         now = time;
 }
@@ -260,6 +300,46 @@ static void finish(void)
     prepare();
     pyhtirso_finish(table, table_len, serial, !one_in(3), now, out, out_len, outcome, PYHTIRSO_OUTCOME);
     hold(out_len, 0);
+    hold_dead();
+}
+
+/* What housekeeping made of the table: the clock moved, the dead freed, all else as it was. */
+static void hold_house(uint64_t time)
+{
+    static const uint8_t check_of_zeros[4] = { 0x01, 0x00, 0xFC, 0x01 };
+    uint64_t clock = number_at(before + 8);
+    if (number_at(table + 8) != (clock < time ? time : clock) || memcmp(table, before, 8) || memcmp(table + 16, before + 16, 508 - 16))
+        fault("housekeeping made another header");
+    for (size_t k = 1; k < table_len / BLOCK; k++) {
+        uint8_t *was = before + k * BLOCK;
+        if (dead(k)) {
+            freed++;
+            memset(was, 0, BLOCK);
+            memcpy(was + 508, check_of_zeros, 4);
+        }
+        if (memcmp(was, table + k * BLOCK, BLOCK))
+            fault("housekeeping made another record");
+    }
+}
+
+/* Housekeeping, now and then at a time long past or to come, the last or beyond it, or of a cut table. */
+static void housekeep(void)
+{
+    size_t len = one_in(40) ? any() % table_len : table_len;
+    uint64_t time = one_in(10) ? 0 : one_in(10) ? (1ull << 40) + 1 + any() % 1000 : one_in(4) ? now + any() % 30000 : now;
+    if (one_in(200))
+        time = 1ull << 40;
+    snprintf(target, sizeof target, "housekeep %llu", (unsigned long long)time);
+    prepare();
+    memset(outcome, 0, sizeof outcome);
+    outcome[PYHTIRSO_REFUSAL] = pyhtirso_housekeep(table, len, time);
+    hold(0, 0);
+    if (outcome[PYHTIRSO_REFUSAL])
+        return;
+    kept_house++;
+    hold_house(time);
+    if (time > now && time < 1ull << 40)
+        now = time;
 }
 
 /* A visit of a cookie's session, now and then with a shaken cookie, any number, a time to come or any, a cut table. */
@@ -293,8 +373,10 @@ static void damage(void)
     *b ^= (uint8_t)(1 + any() % 255);
     if (of_panels || one_in(2))
         call();
-    else
+    else if (one_in(2))
         visit();
+    else
+        housekeep();
     if (!outcome[0])
         fault("a damaged byte was not noticed");
     *b = old;
@@ -351,11 +433,14 @@ int main(int argc, char **argv)
             visit();
         else if (one_in(30))
             damage();
+        else if (one_in(30))
+            housekeep();
         else
             call();
     }
     every_place();
-    printf("%ld calls, %ld answered, %ld tickets issued, %ld accepted, %ld visits told; refused", calls, answered, issued, accepted, told);
+    printf("%ld calls, %ld answered, %ld tickets issued, %ld accepted, %ld visits told, house kept %ld times, %ld dead freed; refused", calls, answered,
+           issued, accepted, told, kept_house, freed);
     for (int i = 1; i < 10; i++)
         printf(" %d:%ld", i, refused[i]);
     printf("\n%ld faults\n", faults);

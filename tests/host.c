@@ -1,5 +1,5 @@
 /* A host in plain C: it makes a register and has it checked, signs a user in, validates, replays the ticket, takes a grant, proxies, to the
- * deepest chain too, has the visits told and logs out, and checks each answer. */
+ * deepest chain too, has the visits told and logs out; then it lets everything expire, and keeps house. It checks each answer. */
 #include "client.h"
 #include <time.h>
 
@@ -32,11 +32,12 @@ static void validate(char *jar, const char *service, const char *ticket)
     call(jar, false, target, "", false);
 }
 
-static int visits_held(void)
+/* How many slots hold a record of a kind, live or dead; 0 is free. */
+static int held(int kind)
 {
     int n = 0;
     for (int slot = 1; slot < BLOCKS; slot++)
-        n += table[slot * BLOCK] == 7;
+        n += table[slot * BLOCK] == kind;
     return n;
 }
 
@@ -106,6 +107,125 @@ static void try_registers(void)
     expect("so is the second block of one service, which comes first", judged(blocks, 16 * BLOCK, 3, 5));
     panel(blocks + 4 * BLOCK, "https://panel4.lan/", "http://panel4.lan/cb");
     expect("so is a block that breaks a rule", judged(blocks, 16 * BLOCK, 3, 4));
+}
+
+/* The form is asked for and posted, for the lamp panel. */
+static void sign_in(char *jar, const char *user)
+{
+    char body[1024];
+    call(jar, false, "/cas/login?renew=1&service=" LAMP, "", false);
+    snprintf(body, sizeof body, "username=%s&password=secret&service=" LAMP "&lt=%s", user, login_ticket());
+    call(jar, true, "/cas/login", body, true);
+}
+
+static uint32_t housekeep(void) { return pyhtirso_housekeep(table, sizeof table, now); }
+
+/* Whether no record was changed by what came after the copy. */
+static bool records_kept(const uint8_t *before) { return !memcmp(before + BLOCK, table + BLOCK, sizeof table - BLOCK); }
+
+static void try_tickets_expired(char *jar, char *pgt)
+{
+    char target[512], ticket[80], proxied[80];
+    uint32_t serial;
+    take_ticket(jar, ticket);
+    call(jar, false, "/cas/login?service=" GATE, "", false);
+    snprintf(target, sizeof target, "/cas/serviceValidate?service=" GATE "&pgtUrl=" GATE_CALLBACK "&ticket=%s", between(said, "ticket=", ""));
+    call(jar, false, target, "", false);
+    snprintf(pgt, 80, "%s", between(said, "pgtId=", "&"));
+    finish((uint32_t)outcome[PYHTIRSO_CALLBACK_SERIAL], true);
+    snprintf(target, sizeof target, "/cas/proxy?pgt=%s&targetService=" GATE, pgt);
+    call(jar, false, target, "", false);
+    snprintf(target, sizeof target, "/cas/proxyValidate?service=" GATE "&pgtUrl=" GATE_CALLBACK "&ticket=%s", between(said, "<cas:proxyTicket>", "<"));
+    call(jar, false, target, "", false);
+    serial = (uint32_t)outcome[PYHTIRSO_CALLBACK_SERIAL];
+    snprintf(target, sizeof target, "/cas/proxy?pgt=%s&targetService=" LAMP, pgt);
+    call(jar, false, target, "", false);
+    snprintf(proxied, sizeof proxied, "%s", between(said, "<cas:proxyTicket>", "<"));
+    now += 60;
+    finish(serial, true);
+    expect("a waiting grant is dead after a minute, and stays", says(XML, 200, "code=\"INVALID_TICKET\"") && held(5) == 1);
+    now += 240;
+    validate(jar, LAMP, ticket);
+    expect("a ticket after five", says(XML, 200, "code=\"INVALID_TICKET\"") && held(3) == 1);
+    snprintf(target, sizeof target, "/cas/proxyValidate?service=" LAMP "&ticket=%s", proxied);
+    call(jar, false, target, "", false);
+    expect("a proxy ticket, too", says(XML, 200, "code=\"INVALID_TICKET\"") && held(4) == 1);
+    expect("house is kept: the dead go, and nothing else",
+           !housekeep() && !held(3) && !held(4) && !held(5) && held(2) == 1 && held(6) == 1 && held(7) == 1 && !pyhtirso_check(table, sizeof table));
+}
+
+static void try_forms_expired(void)
+{
+    char none[JAR] = "", body[512], late[80];
+    int forms = held(0);
+    for (int i = 0; i < forms; i++)
+        call(none, false, "/cas/login", "", false);
+    snprintf(late, sizeof late, "%s", login_ticket());
+    now += 600;
+    call(none, false, "/cas/login", "", false);
+    expect("the dead take slots: 503", says(PAGE, 503, "503") && !held(0) && held(1) == forms);
+    snprintf(body, sizeof body, "username=ann&password=secret&lt=%s", late);
+    call(none, true, "/cas/login", body, true);
+    expect("a dead login ticket is none, and stays", says(PAGE, 503, "503") && !*none && held(1) == forms);
+    expect("house is kept, a time below the table's own serving too", !pyhtirso_housekeep(table, sizeof table, 0) && held(0) == forms);
+    call(none, false, "/cas/login", "", false);
+    expect("and there is room again", says(PAGE, 200, "<form"));
+}
+
+static void try_session_expired(char *jar, const char *pgt)
+{
+    static uint8_t before[sizeof table];
+    char old[JAR], target[512];
+    now += 28800;
+    memcpy(old, jar, JAR);
+    memcpy(before, table, sizeof table);
+    snprintf(target, sizeof target, "/cas/proxy?pgt=%s&targetService=" LAMP, pgt);
+    call(jar, false, target, "", false);
+    expect("a dead session's grant is none", says(XML, 200, "code=\"BAD_PGT\""));
+    call(jar, false, "/cas/login?gateway=1&service=" LAMP, "", false);
+    expect("nor is the session one", says(REDIRECT, 303, LAMP) && !outcome[PYHTIRSO_DATA]);
+    expect("nobody is told of it", ask_visit(jar, 0) == 9);
+    call(jar, false, "/cas/logout", "", false);
+    expect("a logout only clears the cookie", says(PAGE, 200, "Signed out") && outcome[PYHTIRSO_COOKIE_CLEARED] && records_kept(before));
+    memcpy(jar, old, JAR);
+    sign_in(jar, "ann");
+    expect("the same user gets a new session", says(REDIRECT, 303, LAMP "?ticket=ST-") && strcmp(jar, old) && held(2) == 2 && held(7) == 1);
+    memcpy(jar, old, JAR);
+    sign_in(jar, "bob");
+    expect("another user ends nothing", says(REDIRECT, 303, LAMP "?ticket=ST-") && held(2) == 3 && held(7) == 1 && held(6) == 1);
+    expect("house is kept: the new sessions stay", !housekeep() && held(2) == 2 && held(3) == 2 && held(0) == BLOCKS - 1 - 4);
+}
+
+static void try_housekeeping_refused(void)
+{
+    static uint8_t before[sizeof table];
+    const uint64_t late = (1ull << 40) + 1;
+    now += 28800;
+    memcpy(before, table, sizeof table);
+    expect("a table of eight blocks, and a time over 2^40, are refused",
+           pyhtirso_housekeep(table, 8 * BLOCK, now) == 1 && pyhtirso_housekeep(table, sizeof table, late) == 6);
+    table[5 * BLOCK + 100] = before[5 * BLOCK + 100] ^= 1;
+    expect("so is a damaged table, before the time", housekeep() == 2 && pyhtirso_housekeep(table, sizeof table, late) == 2);
+    expect("and nothing was written", !memcmp(before, table, sizeof table));
+    table[5 * BLOCK + 100] ^= 1;
+    expect("the last second is none too many", !pyhtirso_housekeep(table, sizeof table, late - 1) && held(0) == BLOCKS - 1);
+}
+
+static void try_expiry(void)
+{
+    char jar[JAR] = "", pgt[80];
+    pyhtirso_format(table, sizeof table, now);
+    sign_in(jar, "ann");
+    now += 300;
+    call(jar, false, "/cas/logout", "", false);
+    expect("a session that is ended takes its dead ticket with it", held(0) == BLOCKS - 1);
+    sign_in(jar, "ann");
+    now += 300;
+    expect("house is kept: a session without its first ticket", !housekeep() && held(2) == 1 && held(0) == BLOCKS - 2);
+    try_tickets_expired(jar, pgt);
+    try_forms_expired();
+    try_session_expired(jar, pgt);
+    try_housekeeping_refused();
 }
 
 int main(void)
@@ -179,7 +299,7 @@ int main(void)
     validate(jar, LAMP, low);
     now += 60;
     expect("three visits told in slot order, the table left as it is",
-           visits_held() == 3 && told(jar, 0, GATE, first) && told(jar, 1, LAMP, low) && told(jar, 2, LAMP, high));
+           held(7) == 3 && told(jar, 0, GATE, first) && told(jar, 1, LAMP, low) && told(jar, 2, LAMP, high));
     expect("no fourth visit, and none without a session", ask_visit(jar, 3) == 9 && ask_visit("", 0) == 9 && !*said);
     validate(jar, LAMP, low);
     expect("a visit's ticket is shown in vain, and the visit stays", says(XML, 200, "code=\"INVALID_TICKET\"") && told(jar, 1, LAMP, low));
@@ -194,7 +314,7 @@ int main(void)
     memcpy(kept, jar, JAR);
     call(jar, false, "/cas/logout?url=https://lamp.lan/", "", false);
     expect("log out", says(PAGE, 200, "<a href=\"https://lamp.lan/\">Back</a>") && outcome[PYHTIRSO_COOKIE_CLEARED] == 1);
-    expect("no visit is left", ask_visit(kept, 0) == 9 && !visits_held());
+    expect("no visit is left", ask_visit(kept, 0) == 9 && !held(7));
     call(kept, false, "/cas/login", "", false);
     expect("the session is gone", says(PAGE, 200, "<form"));
     call(kept, false, "/cas/login?gateway=1&service=" GATE, "", false);
@@ -206,6 +326,7 @@ int main(void)
            !pyhtirso_finish(table, sizeof table, 1, true, now, out, OUT, wrong, 7) && !pyhtirso_check_register(panels, sizeof panels, wrong, 1)
                && !pyhtirso_visit(table, sizeof table, cookie_out, 0, 0, now, random_bytes, RANDOM, out, OUT, wrong, 3)
                && wrong[0] == 0x0707070707070707u && !memcmp(said, table, BLOCK));
+    try_expiry();
     printf("%d failed\n", failed);
     return failed != 0;
 }

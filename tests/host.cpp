@@ -82,13 +82,15 @@ static void each_call_once()
            answer(table, panels, "/cas/login", random_input, output, cookie_output) == PYHTIRSO_ANSWERED && page(200));
     expect("finish", finish(table, output) == PYHTIRSO_ANSWERED && outcome[PYHTIRSO_KIND] == PYHTIRSO_KIND_XML
                          && outcome[PYHTIRSO_STATUS] == 200);
+    expect("housekeep", pyhtirso_housekeep(table.bytes, table.length, 1600) == PYHTIRSO_ANSWERED && table.bytes[BLOCK] == 0);
     expect("visit, cookie null", visit(table, none, random_input, output) == PYHTIRSO_REFUSED_NO_VISIT);
 }
 
 static void each_slice_null()
 {
-    expect("format and check, table null", pyhtirso_format(nullptr, 0, 1000) == PYHTIRSO_REFUSED_TABLE_SIZE
-                                               && pyhtirso_check(nullptr, 0) == PYHTIRSO_REFUSED_TABLE_SIZE);
+    expect("format, check and housekeep, table null", pyhtirso_format(nullptr, 0, 1000) == PYHTIRSO_REFUSED_TABLE_SIZE
+                                                          && pyhtirso_check(nullptr, 0) == PYHTIRSO_REFUSED_TABLE_SIZE
+                                                          && pyhtirso_housekeep(nullptr, 0, 1000) == PYHTIRSO_REFUSED_TABLE_SIZE);
     expect("read form, body null", read_form(none, username, password) == PYHTIRSO_REFUSED_FORM_INCOMPLETE);
     expect("read form, username null", read_form("username=ann&password=x", none, password) == PYHTIRSO_REFUSED_BUFFER);
     expect("read form, password null", read_form("username=ann&password=x", username, none) == PYHTIRSO_REFUSED_BUFFER);

@@ -1,5 +1,5 @@
-/* The stack's high-water mark. Linked with `--wrap` into the test host or the hammer, it runs each of their calls of answer, finish and visit on a
- * painted stack of its own, and at the end tells how far down any of them wrote: from the host's stack pointer before the call, so arguments
+/* The stack's high-water mark. Linked with `--wrap` into the test host or the hammer, it runs each of their calls of answer, finish, housekeep and
+ * visit on a painted stack of its own, and at the end tells how far down any of them wrote: from the host's stack pointer before the call, so arguments
  * and return address are in it. */
 #include "../include/pyhtirso.h"
 #include <stdio.h>
@@ -7,10 +7,11 @@
 
 enum { STACK = 65536, PAINT = 0xa5 };
 
-static _Alignas(16) uint8_t answer_stack[STACK], finish_stack[STACK], visit_stack[STACK];
+static _Alignas(16) uint8_t answer_stack[STACK], finish_stack[STACK], housekeep_stack[STACK], visit_stack[STACK];
 
 __typeof__(pyhtirso_answer) __real_pyhtirso_answer, __wrap_pyhtirso_answer;
 __typeof__(pyhtirso_finish) __real_pyhtirso_finish, __wrap_pyhtirso_finish;
+__typeof__(pyhtirso_housekeep) __real_pyhtirso_housekeep, __wrap_pyhtirso_housekeep;
 __typeof__(pyhtirso_visit) __real_pyhtirso_visit, __wrap_pyhtirso_visit;
 
 /* The arguments of the call under way. */
@@ -19,7 +20,7 @@ static struct {
     const uint8_t *read, *panels, *target, *body, *cookie, *random; /* `read` is the table of a visit */
     size_t table_len, panels_len, target_len, body_len, cookie_len, random_len, out_len, cookie_out_len, outcome_len;
     uint64_t time, *outcome;
-    uint32_t serial, number;
+    uint32_t serial, number, refusal;
     bool post, verdict, ok, result;
 } at;
 
@@ -34,6 +35,8 @@ static void finish(void)
 {
     at.result = __real_pyhtirso_finish(at.table, at.table_len, at.serial, at.ok, at.time, at.out, at.out_len, at.outcome, at.outcome_len);
 }
+
+static void housekeep(void) { at.refusal = __real_pyhtirso_housekeep(at.table, at.table_len, at.time); }
 
 static void visit(void)
 {
@@ -72,6 +75,13 @@ bool __wrap_pyhtirso_finish(uint8_t *table, size_t table_len, uint32_t serial, b
     return at.result;
 }
 
+uint32_t __wrap_pyhtirso_housekeep(uint8_t *table, size_t table_len, uint64_t time)
+{
+    at.table = table, at.table_len = table_len, at.time = time;
+    run_on(housekeep_stack, housekeep);
+    return at.refusal;
+}
+
 bool __wrap_pyhtirso_visit(const uint8_t *table, size_t table_len, const uint8_t *cookie, size_t cookie_len, uint32_t number, uint64_t time,
                            const uint8_t *random, size_t random_len, uint8_t *out, size_t out_len, uint64_t *list, size_t list_len)
 {
@@ -93,10 +103,12 @@ __attribute__((constructor)) static void paint(void)
 {
     memset(answer_stack, PAINT, STACK);
     memset(finish_stack, PAINT, STACK);
+    memset(housekeep_stack, PAINT, STACK);
     memset(visit_stack, PAINT, STACK);
 }
 
 __attribute__((destructor)) static void tell(void)
 {
-    printf("stack: answer %d bytes, finish %d bytes, visit %d bytes\n", used(answer_stack), used(finish_stack), used(visit_stack));
+    printf("stack: answer %d bytes, finish %d bytes, housekeep %d bytes, visit %d bytes\n", used(answer_stack), used(finish_stack),
+           used(housekeep_stack), used(visit_stack));
 }

@@ -1,5 +1,6 @@
 /* The worked run of docs/HOST.md, call by call, over nothing but the header: each number, each byte that is told and the blocks that each call
- * changes are those that stand there. The n-th call is made n seconds after the start, with 48 random bytes that are all n. */
+ * changes are those that stand there. The n-th call is made n seconds after the start, with 48 random bytes that are all n; the last is made at
+ * second 612. */
 #include "../include/pyhtirso.h"
 #include <stdio.h>
 #include <string.h>
@@ -198,6 +199,13 @@ static void sign_out(void)
            taken && says(PYHTIRSO_KIND_PAGE, 200, FORM(NEXT_LOGIN_TICKET, ""), "", 0, 0) && stores("0 1"));
 }
 
+static void keep_house(void)
+{
+    expect("13 house is kept, and nothing is dead", pyhtirso_housekeep(table, sizeof table, next_time()) == PYHTIRSO_ANSWERED && stores("0"));
+    expect("612 ten minutes after the form, its login ticket is freed",
+           pyhtirso_housekeep(table, sizeof table, START + 612) == PYHTIRSO_ANSWERED && stores("0 1") && table[BLOCK] == 0);
+}
+
 int main(void)
 {
     lay_table_and_register();
@@ -205,6 +213,7 @@ int main(void)
     panel_validates();
     panel_takes_a_grant();
     sign_out();
+    keep_house();
     printf("%d failed\n", failed);
     return failed != 0;
 }

@@ -4,8 +4,8 @@
 use std::time::{Duration, SystemTime, UNIX_EPOCH};
 
 const DAY: u64 = 86_400;
-/// How often the table's clock is moved where nobody calls, so that a quiet week does not look like a jump.
-pub const TICK: Duration = Duration::from_secs(3_600);
+/// How often house is kept: what is dead is freed, and the table's clock moves where nobody calls, so that a quiet week does not look like a jump.
+pub const KEEPING: Duration = Duration::from_secs(60);
 
 /// Seconds from 1970, UTC.
 pub fn now() -> u64 {

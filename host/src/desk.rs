@@ -15,7 +15,7 @@ use std::path::PathBuf;
 
 /// A new table has the most blocks that a table may have.
 const TABLE: usize = 128 * BLOCK;
-/// A target that is none: the core answers 404 and moves the table's clock.
+/// A target that is none: the core answers 404.
 const NOWHERE: &str = "/";
 /// Calls that are written to the core before the first of their answers is read. A pipe has room for all of them.
 const AHEAD: usize = 8;
@@ -31,12 +31,6 @@ pub struct Asked {
 }
 
 impl Asked {
-    /// A request of the server's own that moves the table's clock and changes nothing else but what has expired.
-    pub fn tick() -> Asked {
-        let source = std::net::IpAddr::from([127, 0, 0, 1]).into();
-        Asked { source, post: false, target: NOWHERE.into(), body: Vec::new(), cookie: String::new() }
-    }
-
     fn path(&self) -> &str {
         self.target.split('?').next().unwrap_or_default()
     }
@@ -71,7 +65,12 @@ impl Asked {
 #[derive(Debug)]
 pub enum Work {
     Request(Asked),
-    Finish { serial: u32, ok: bool },
+    Finish {
+        serial: u32,
+        ok: bool,
+    },
+    /// What is dead is freed.
+    Housekeep,
 }
 
 impl Work {
@@ -159,7 +158,7 @@ impl Desk {
         if let Some(wrong) = clock::jump(now, table).filter(|_| !clock_is_right).or_else(|| clock::lag(now, table)) {
             return Err(wrong);
         }
-        let changed = first_call(config, &mut desk.core, now)?;
+        let changed = first_calls(config, &mut desk.core, now)?;
         desk.lay(&changed).map_err(|Ended(why)| config.core.fault(why))?;
         desk.keep()?;
         Ok(desk)
@@ -239,7 +238,7 @@ impl Desk {
     fn ahead<'a>(&self, works: impl Iterator<Item = &'a Work>) -> usize {
         let (now, mut forms) = (clock::now(), Vec::new());
         let goes = |work: &&Work| match work {
-            Work::Finish { .. } => true,
+            Work::Finish { .. } | Work::Housekeep => true,
             Work::Request(asked) if asked.is_sign_in() || asked.may_end_session() => false,
             Work::Request(asked) => {
                 let room = !asked.may_open_form() || self.forms.room(asked.source, None, &forms, now).is_ok();
@@ -257,6 +256,7 @@ impl Desk {
             calls.extend(match work {
                 Work::Request(asked) => frames::answer(&asked.request(), time, false, &pipe::random()?),
                 Work::Finish { serial, ok } => frames::finish(*serial, *ok, time),
+                Work::Housekeep => frames::housekeep(time),
             });
         }
         Ok(self.core.write(&calls)?)
@@ -279,7 +279,7 @@ impl Desk {
     }
 
     fn ended(&mut self, work: &Work) -> Result<Outcome, Ended> {
-        let answer = self.core.read(frames::answered)?;
+        let answer = self.core.read(if matches!(work, Work::Housekeep) { frames::housekept } else { frames::answered })?;
         self.lay(&answer.changed)?;
         if let (Work::Request(asked), Some(ticket)) = (work, opened_ticket(&answer)) {
             self.forms.opened(asked.source, ticket, clock::now());
@@ -291,13 +291,14 @@ impl Desk {
     pub fn alone(&mut self, work: &Work) -> Result<Outcome, Fault> {
         match work {
             Work::Request(asked) => self.request(asked),
-            Work::Finish { serial, ok } => self.finish(*serial, *ok),
+            Work::Finish { serial, ok } => self.one_call(|core, time| core.finish(*serial, *ok, time)),
+            Work::Housekeep => self.one_call(Core::housekeep),
         }
     }
 
-    fn finish(&mut self, serial: u32, ok: bool) -> Result<Outcome, Fault> {
+    fn one_call(&mut self, call: impl FnOnce(&mut Core, u64) -> Result<Answer, Ended>) -> Result<Outcome, Fault> {
         let time = self.time()?;
-        let answer = self.core.finish(serial, ok, time)?;
+        let answer = call(&mut self.core, time)?;
         self.lay(&answer.changed)?;
         Ok(Outcome::Answered { user: named_user(&answer), answer, sign_offs: Vec::new() })
     }
@@ -405,15 +406,20 @@ fn started(config: &Config) -> Result<(Core, Vec<u8>), String> {
     }
 }
 
-/// The first call, for a path that is none: it moves the table's clock, and shows that core, register and table go together.
-fn first_call(config: &Config, core: &mut Core, time: u64) -> Result<Vec<Changed>, String> {
+/// The first calls: one for a path that is none, which moves the table's clock and shows that core, register and table go together; then house is
+/// kept. Gives the blocks that they changed, in their order.
+fn first_calls(config: &Config, core: &mut Core, time: u64) -> Result<Vec<Changed>, String> {
     let request = Request { post: false, target: NOWHERE.as_bytes(), body: b"", cookie: b"" };
-    let answer = core.answer(&request, time, false).map_err(|Ended(why)| config.core.fault(why))?;
-    match answer.refusal {
-        0 => Ok(answer.changed),
-        3 => Err(config.register_fault(None)),
-        refusal => Err(format!("the core refuses a plain call (refusal {refusal})")),
+    let mut changed = Vec::new();
+    for answer in [core.answer(&request, time, false), core.housekeep(time)] {
+        let answer = answer.map_err(|Ended(why)| config.core.fault(why))?;
+        match answer.refusal {
+            0 => changed.extend(answer.changed),
+            3 => return Err(config.register_fault(None)),
+            refusal => return Err(format!("the core refuses a plain call (refusal {refusal})")),
+        }
     }
+    Ok(changed)
 }
 
 /// What there is to say of core, register and table of a configuration. The calls that show it change nothing that is stored.
@@ -434,7 +440,7 @@ pub fn check(config: &Config) -> Result<&'static str, String> {
     } else {
         core.format(TABLE, now).map_err(ended)?;
     }
-    first_call(config, &mut core, now)?;
+    first_calls(config, &mut core, now)?;
     Ok(if table.is_some() { "all is well" } else { "all is well; there is no table yet, the first start makes one" })
 }
 

@@ -108,6 +108,10 @@ pub fn format(size: u32, time: u64) -> Vec<u8> {
     Writer::new(b'F').u32(size).u8(0).u64(time).done()
 }
 
+pub fn housekeep(time: u64) -> Vec<u8> {
+    Writer::new(b'K').u64(time).done()
+}
+
 pub fn read_form(body: &[u8]) -> Vec<u8> {
     Writer::new(b'R').text(body).u32(USERNAME).u32(PASSWORD).done()
 }
@@ -194,8 +198,20 @@ pub fn registered(frame: &[u8]) -> Option<(u32, u32)> {
     fields.end().map(|()| answer)
 }
 
+/// The refusal of a format and the blocks of the new table.
 pub fn formatted(frame: &[u8]) -> Option<(u32, Vec<Changed>)> {
-    let mut fields = Reader::new(frame, b'F')?;
+    refused_or_changed(frame, b'F')
+}
+
+/// What housekeeping gave: an answer with no more than a refusal and the blocks that it changed.
+pub fn housekept(frame: &[u8]) -> Option<Answer> {
+    let (refusal, changed) = refused_or_changed(frame, b'K')?;
+    let (output, cookie) = (Vec::new(), Vec::new());
+    Some(Answer { refusal, kind: Kind::None, data: false, status: 0, cookie_cleared: false, callback_serial: 0, output, cookie, changed })
+}
+
+fn refused_or_changed(frame: &[u8], letter: u8) -> Option<(u32, Vec<Changed>)> {
+    let mut fields = Reader::new(frame, letter)?;
     let answer = (fields.u32()?, fields.changed()?);
     fields.end().map(|()| answer)
 }

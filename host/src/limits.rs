@@ -1,6 +1,7 @@
 //! What one address may take of what everybody needs: wrong passwords are slowed down, and of open forms, waiting sign-ins and connections it
 //! gets the less the fewer are left. An address is a host, or with IPv6 its network of 64 bits, which is one customer's.
 
+use crate::clock;
 use std::collections::{HashMap, VecDeque};
 use std::net::{IpAddr, Ipv6Addr};
 use std::sync::{Arc, Mutex, PoisonError};
@@ -10,9 +11,10 @@ const FREE: u64 = 5;
 const FORGET: u64 = 20;
 /// Addresses with wrong passwords that are remembered at most; beyond it the one with the least is forgotten.
 const REMEMBERED: usize = 4_096;
-/// Login tickets that a table holds, how long one lives, and how many of them are kept for addresses that are known.
+/// Login tickets that a table holds, how long one may stand there (ten minutes, and until house is kept), and how many of them are kept for
+/// addresses that are known.
 const FORMS: usize = 32;
-const FORM_LIFE: u64 = 600;
+const FORM_LIFE: u64 = 600 + clock::KEEPING.as_secs();
 const KEPT: usize = 8;
 /// What an address may have is a third of what is left, so that alone it gets eight forms, or six of those that are not kept, and four addresses
 /// together leave some. Ten or so can take all that are not kept, one by one.

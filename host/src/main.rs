@@ -109,8 +109,8 @@ async fn listen(config: &Config, tls: Option<TlsAcceptor>, front: Arc<Front>) ->
     let (stop, stops) = watch::channel(false);
     let mut terminate = signal(SignalKind::terminate()).map_err(|error| error.to_string())?;
     let mut interrupt = signal(SignalKind::interrupt()).map_err(|error| error.to_string())?;
-    let ticking = front.queue.clone();
-    tokio::spawn(async move { ticking.tick().await });
+    let house = front.queue.clone();
+    tokio::spawn(async move { house.keep_house().await });
     let outward = front.outward.clone();
     let serving = tokio::spawn(front::serve(listener, tls, front, stops));
     tokio::select! {

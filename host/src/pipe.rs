@@ -134,6 +134,10 @@ impl Core {
         self.call(&frames::format(size as u32, time), frames::formatted)
     }
 
+    pub fn housekeep(&mut self, time: u64) -> Result<Answer, Ended> {
+        self.call(&frames::housekeep(time), frames::housekept)
+    }
+
     pub fn read_form(&mut self, body: &[u8]) -> Result<Form, Ended> {
         self.call(&frames::read_form(body), frames::form)
     }

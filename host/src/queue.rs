@@ -61,12 +61,16 @@ impl Queue {
         self.wait(Work::Finish { serial, ok }).await
     }
 
-    /// Moves the table's clock now and then, for as long as the server runs.
-    pub async fn tick(&self) {
+    /// Keeps house, for as long as the server runs.
+    pub async fn keep_house(&self) {
         loop {
-            tokio::time::sleep(clock::TICK).await;
-            if self.wait(Work::Request(Asked::tick())).await.is_err() {
-                return;
+            tokio::time::sleep(clock::KEEPING).await;
+            match self.wait(Work::Housekeep).await {
+                Ok(Outcome::Answered { answer, .. }) if answer.refusal != 0 => {
+                    log::line(format_args!("house is not kept: refusal {}", answer.refusal))
+                }
+                Ok(_) => {}
+                Err(Full) => return,
             }
         }
     }

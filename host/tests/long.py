@@ -7,6 +7,7 @@ import os
 import random
 import resource
 import signal
+import sqlite3
 import socket
 import statistics
 import subprocess
@@ -271,6 +272,16 @@ class Clock(unittest.TestCase):
         beside = self.setting.with_suffix('.new')
         beside.write_text(clock + '\n')
         beside.rename(self.setting)
+
+    def test_house_is_kept_once_a_minute(self):
+        self.browser.sign_in('ann', GATE)
+        self.browser.get('login')
+        self.set('+9h')
+        time.sleep(70)
+        self.world.stop()
+        with contextlib.closing(sqlite3.connect(self.world.folder / 'data' / 'table.sqlite')) as database:
+            held = [number for number, stored in database.execute('SELECT number, bytes FROM block WHERE number > 0') if stored[0]]
+        self.assertEqual(held, [])
 
     def test_a_clock_that_jumps_stops_the_server_until_the_operator_says_it_is_right(self):
         self.browser.sign_in('ann')

@@ -487,17 +487,48 @@ class Starting(unittest.TestCase):
             self.assertEqual(status, 78)
             self.assertRegex(said, r'table\.sqlite: the table is damaged \(refusal 2\)\. Move .* away and start again')
 
-    def set_clock(self, seconds):
-        """Sets the clock of an empty table, check included."""
+    def rewrite(self, change):
+        """Changes blocks of the stored table, each with its number, and makes their checks anew."""
         with self.database() as database:
-            block = bytearray(database.execute('SELECT bytes FROM block WHERE number = 0').fetchone()[0])
-            block[8:16] = struct.pack('<Q', seconds)
-            a, b = 1, 0
-            for byte in block[:508]:
-                a = (a + byte) % 65_535
-                b = (b + a) % 65_535
-            block[508:] = struct.pack('<I', b * 65_536 + a)
-            database.execute('UPDATE block SET bytes = ? WHERE number = 0', (bytes(block),))
+            for number, stored in database.execute('SELECT number, bytes FROM block').fetchall():
+                block = bytearray(stored)
+                change(number, block)
+                a, b = 1, 0
+                for byte in block[:508]:
+                    a = (a + byte) % 65_535
+                    b = (b + a) % 65_535
+                block[508:] = struct.pack('<I', b * 65_536 + a)
+                database.execute('UPDATE block SET bytes = ? WHERE number = ?', (bytes(block), number))
+
+    def set_clock(self, seconds):
+        """Sets the clock of an empty table."""
+        def change(number, block):
+            if number == 0:
+                block[8:16] = struct.pack('<Q', seconds)
+        self.rewrite(change)
+
+    def put_back(self, seconds):
+        """Puts a table back in time, its clock and all its records: expiries, and a session's sign-on."""
+        def change(number, block):
+            for place in [8] if number == 0 else [16, 272][:(block[0] > 0) + (block[0] == 2)]:
+                block[place:place + 8] = struct.pack('<Q', struct.unpack_from('<Q', block, place)[0] - seconds)
+        self.rewrite(change)
+
+    def held(self):
+        """How many slots of the stored table are not free."""
+        with self.database() as database:
+            return sum(stored[0] != 0 for (stored,) in database.execute('SELECT bytes FROM block WHERE number > 0'))
+
+    def test_house_is_kept_at_the_start(self):
+        self.world.start()
+        self.browser.sign_in('ann', self.service)
+        self.world.stop()
+        self.assertEqual(self.held(), 2)
+        self.put_back(9 * 3_600)
+        self.assertEqual((self.world.run('check'), self.held()), ((0, 'all is well\n'), 2))
+        self.world.start()
+        self.world.stop()
+        self.assertEqual(self.held(), 0)
 
     def test_a_clock_that_jumps_is_not_handed_on(self):
         self.world.start()

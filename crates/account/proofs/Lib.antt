@@ -22,4 +22,4 @@ pub mod Validators
 pub mod Others
 pub mod Run
 pub mod Demand
-pub mod Waiting
+pub mod Lawful

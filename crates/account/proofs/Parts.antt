@@ -15,7 +15,7 @@ use Rattle.protocol.specs.Tickets.{iouText, aLogin, aSession, aService, aProxy,
 use Rattle.protocol.specs.Records.{Rec, freeRec, nameOf}
 use Rattle.protocol.specs.Table.{Table, recAt}
 use Rattle.protocol.specs.Answers.{successText}
-use Rattle.protocol.specs.Steps.{tick, put, remove, endSession, isNamed, slotNamed, sessionOf, ticketSlot, waitingSlot, newRec, newSession, newService, add, chainOf, proxyParent, turned}
+use Rattle.protocol.specs.Steps.{tick, clear, put, remove, endSession, isNamed, slotNamed, sessionOf, ticketSlot, waitingSlot, newRec, newSession, newService, add, chainOf, proxyParent, turned}
 use Rattle.protocol.proofs.Laws.{both, same-eq, same-refl}
 use Rattle.protocol.proofs.Added.{Room}
 use Rattle.protocol.proofs.Searches.{nonzero}
@@ -28,7 +28,7 @@ use Rattle.account.proofs.Base.{Case, is, isnt, case, clash, untrue, is
 use Rattle.account.proofs.Sim.{Slot, bare, noSlot, on, alive, lives, Above, Up, upOf, Under, Placed, login, session, below, originOf, Granted, Sim}
 use Rattle.account.proofs.Edits.{alive-time, ticket-among, under-of, home-lives, signed-keeps}
 use Rattle.account.proofs.Look.{seen, recOf, live-inside, Tied, tied-aged, rec-on, Hit, isTicketNamed, isWaitingOf, hit-named, hit-slot, miss-named, hit-ticket, miss-ticket, hit-waiting, ticket-kind, waiting-kind, named-kind, named-name}
-use Rattle.account.proofs.Tables.{put-slots, tied-none, tied-remove, tied-left, some-slot, left-good, tied-pass}
+use Rattle.account.proofs.Tables.{put-slots, tied-none, tied-remove, tied-left, some-slot, left-good, tied-pass, tied-clear}
 use Rattle.account.proofs.Sessions.{end-some, end-none, tied-raise}
 use Rattle.account.proofs.Making.{new-text, new-ref, slot-text, slot-ref, tied-login, tied-session, session-source, under-source, tied-under}
 use Rattle.account.proofs.Balance.{Books, close-books, login-books, enter-books, ticket-books, welcome-books, callback-books, raise-books, refuse-books}
@@ -64,6 +64,9 @@ module _ {K : Known} {L : Notebook} {t : Table} (R : Reached K L t) where
         clock-eq = ap (λ (c : ℕ). max c time) (R .clock-eq);
         books = close-books (R .books) expired _ refl refl refl;
       }
+
+  pub reach-clear : Reached K L (clear t)
+  reach-clear = record { tied = tied-clear L t (R .tied); clock-eq = R .clock-eq; books = R .books }
 
   pub reach-show : Room t → (random : List ℕ)
       → (let r = newRec aLogin 0 0 0 0 [] random t in Reached (lasts (nameOf r) (K .clock + lifetime aLogin) K) (enter (loginLine (nameOf r) (L .clock)) L) (add r t))

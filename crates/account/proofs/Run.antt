@@ -12,15 +12,15 @@ use Rattle.protocol.specs.Records.{Rec, freeRec}
 use Rattle.protocol.specs.Table.{Table, encodeTable, decodeTable, tableShape, tableLawful, lastTime, formatted}
 use Rattle.protocol.specs.Request.{pathPart, requestOf}
 use Rattle.protocol.specs.Answers.{replyText, replyAnswer}
-use Rattle.protocol.specs.Steps.{Step, tick, finish}
-use Rattle.protocol.specs.Calls.{Inputs, Result, inputs, refusal, stepOf, outcomeWith, delivered, unchanged, answerOf, finishRefusal, finishOf, formatRefusal, formatOf}
+use Rattle.protocol.specs.Steps.{Step, tick, housekept, finish}
+use Rattle.protocol.specs.Calls.{Inputs, Result, inputs, refusal, stepOf, outcomeWith, delivered, unchanged, answerOf, finishRefusal, finishOf, Numbered, numbered, housekeepRefusal, housekeepOf, formatRefusal, formatOf}
 use Rattle.protocol.proofs.Laws.{both, fork, and-false, table-back}
-use Rattle.protocol.proofs.Sound.{Sound, tick-sound}
+use Rattle.protocol.proofs.Sound.{Sound, tick-sound, clear-sound}
 use Rattle.protocol.proofs.StepSound.{finish-sound}
-use Rattle.protocol.proofs.Lasting.{lawful-sound, passes, passed, step-sound, formatted-sound}
-use Rattle.account.specs.History.{Text, AnswerCall, FinishCall, Call, ask, tell, served, Event, eventOf, tableAfter, historyOf}
+use Rattle.protocol.proofs.Lasting.{lawful-sound, passes, passed, step-sound, housekept as housekept-sound, formatted-sound}
+use Rattle.account.specs.History.{Text, AnswerCall, FinishCall, Call, ask, tell, tidy, byNumber, served, Event, eventOf, tableAfter, historyOf}
 use Rattle.account.specs.Reading.{Said, saidIn, readRequest, readCall, trailOf}
-use Rattle.account.specs.Notebook.{Line, notebook}
+use Rattle.account.specs.Notebook.{Line, notebook, note}
 use Rattle.account.specs.Truth.{Known, known}
 use Rattle.account.specs.Account.{validators, issuedBy, acceptedBy, successBy, sumOf, Frank, AllFrank, Honest}
 use Rattle.account.proofs.Base.{Case, is, isnt, case, clash}
@@ -28,7 +28,7 @@ use Rattle.account.proofs.Sim.{noSlot, on, lives, weigh}
 use Rattle.account.proofs.Look.{recOf, Tied}
 use Rattle.account.proofs.Balance.{no-books}
 use Rattle.account.proofs.Reached.{Reached}
-use Rattle.account.proofs.Parts.{reach-pass}
+use Rattle.account.proofs.Parts.{reach-pass, reach-clear}
 use Rattle.account.proofs.Texts.{said-is}
 use Rattle.account.proofs.Counts.{Ok}
 use Rattle.account.proofs.Others.{finish-ok, request-ok}
@@ -63,6 +63,7 @@ module _ (start : ℕ) (es : List Event) (b : Text) (R : Stands start (trailOf e
         wins = rw (e, and-false (among (pathPart (a .target)) validators)) (omega arith);
         frank = λ v x. refl;
       }
+  refused (tidy time) n out cookie e = record { reached = rw e R; honest = rw e H; issues = rw e (omega arith); accepts = rw e (omega arith); wins = rw e (omega arith); frank = tt }
   refused (tell f) n out cookie e = record { reached = rw e R; honest = rw e H; issues = rw e (omega arith); accepts = rw e (omega arith); wins = rw e (omega arith); frank = λ x. refl }
 
   -- a call of answer
@@ -133,10 +134,32 @@ module _ (start : ℕ) (es : List Event) (b : Text) (R : Stands start (trailOf e
     unfolding finishOf
     tell-after = fork (After start es (tell f)) (eqb n 0) (λ e. told (eqb-true n 0 e)) (λ e. refused (tell f) n (f .out) [] e)
 
+  -- a call of housekeeping
+  module _ (time : ℕ) where
+    tidied : housekeepRefusal b time ≡ 0 → After start es (tidy time) (byNumber (numbered 0 (encodeTable (housekept time (decodeTable b)))))
+    unfolding eventOf trailOf readCall issuedBy acceptedBy successBy Frank known notebook Honest note
+    tidied e =
+        let s = clear-sound (tick time (decodeTable b)) (housekept-sound b time e .sound) in
+        record {
+          reached = rw (back (housekept time (decodeTable b)) s) (reach-clear (reach-pass R time));
+          honest = (record { opens = λ z. absurd (clash refl z); accepts = λ z. absurd (clash z refl); welcomes = λ z. absurd (clash z refl); settles = λ z. absurd (clash z refl) }, H);
+          issues = omega arith;
+          accepts = omega arith;
+          wins = omega arith;
+          frank = tt;
+        }
+
+    tidy-after : After start es (tidy time) (byNumber (housekeepOf b time))
+    unfolding housekeepOf
+    tidy-after =
+        fork (λ (n : Numbered). After start es (tidy time) (byNumber n)) (eqb (housekeepRefusal b time) 0) (λ e. tidied (eqb-true (housekeepRefusal b time) 0 e))
+        (λ e. refused (tidy time) (housekeepRefusal b time) [] [] e)
+
   call-after : (c : Call) → After start es c (served c b)
   unfolding served
   call-after (ask a) = ask-after a
   call-after (tell f) = tell-after f
+  call-after (tidy time) = tidy-after time
 
 -- a run
 pub record Life (start : ℕ) (es : List Event) (b : Text) : Type 0 where

@@ -12,7 +12,7 @@ use lib.Seq.{getD-set-same, getD-set-other}
 use lib.Dec.{ltb, eqb}
 use Rattle.protocol.specs.Records.{Rec, freeRec}
 use Rattle.protocol.specs.Table.{Table, putAt}
-use Rattle.protocol.specs.Steps.{clearRec, tick, put, remove, slotFor, add}
+use Rattle.protocol.specs.Steps.{clearRec, tick, clear, put, remove, slotFor, add}
 use Rattle.protocol.proofs.Added.{Room}
 use Rattle.protocol.proofs.Laws.{and-false}
 use Rattle.account.specs.Notebook.{Fate, expired, Line, Notebook, closeLine, closeAll, enter, pass}
@@ -147,7 +147,7 @@ tied-add L t w m a la sa ra ga =
           a la sa ra (s .1) ga;
     }
 
--- The clock moves and the dead are cleared
+-- The clock moves, and the dead are cleared
 
 clear-free : (c : ℕ) → clearRec c freeRec ≡ freeRec
 clear-free c = if-same (ltb c 0) freeRec
@@ -178,12 +178,23 @@ sim-clear L A n S =
 pub tied-pass : {K : Known} (L : Notebook) (t : Table) (time : ℕ) → Tied K L t → Tied K (pass time L) (tick time t)
 unfolding pass closeAll tick
 tied-pass L t time w =
-    let s = sim-time L (w .A) (w .n) (w .sim) (max (L .clock) time) (omega arith) in
     record {
-      A = map (onRec (clearRec (max (L .clock) time))) (w .A);
+      A = w .A;
       n = w .n;
-      slots-are = rw (w .clock-is) (map-slots (clearRec (max (L .clock) time)) (clear-free (max (L .clock) time)) (t .slots) (w .A) (w .slots-are));
+      slots-are = w .slots-are;
       clock-is = rw (w .clock-is);
       next-is = w .next-is;
-      sim = sim-clear _ (w .A) (w .n) s;
+      sim = sim-time L (w .A) (w .n) (w .sim) (max (L .clock) time) (omega arith);
+    }
+
+pub tied-clear : {K : Known} (L : Notebook) (t : Table) → Tied K L t → Tied K L (clear t)
+unfolding clear
+tied-clear L t w =
+    record {
+      A = map (onRec (clearRec (L .clock))) (w .A);
+      n = w .n;
+      slots-are = rw (w .clock-is) (map-slots (clearRec (L .clock)) (clear-free (L .clock)) (t .slots) (w .A) (w .slots-are));
+      clock-is = w .clock-is;
+      next-is = w .next-is;
+      sim = sim-clear L (w .A) (w .n) (w .sim);
     }

@@ -29,7 +29,7 @@ use Rattle.protocol.specs.Table.{decodeTable}
 use Rattle.protocol.specs.Request.{pathPart}
 use Rattle.protocol.specs.Answers.{successText}
 use Rattle.protocol.specs.declared.Answer.{Answer}
-use Rattle.account.specs.History.{Text, Call, ask, tell, Event}
+use Rattle.account.specs.History.{Text, Call, ask, tell, tidy, Event}
 use Rattle.account.specs.Reading.{Showing, Said, carries, tells, callsBack, saidIn, trailOf}
 use Rattle.account.specs.Notebook.{held, accepted, burnt, ended, expired, cameTo, Notebook, isTicket, isTicketLine, isWaitingLine, isFound, look, pass, notebook, tally}
 use Rattle.account.specs.Truth.{Origin, Granting, Known, known, liveIn, count}
@@ -48,16 +48,19 @@ one false = 0
 unfoldable pub issuedBy : Call → Answer → ℕ
 issuedBy (ask a) r = one (carries r || (same (pathPart (a .target)) (ascii "/cas/proxy") && tells r))
 issuedBy (tell f) r = 0
+issuedBy (tidy time) r = 0
 
 -- a validator that answers yes, success or callback
 unfoldable pub acceptedBy : Call → Answer → ℕ
 acceptedBy (ask a) r = one (among (pathPart (a .target)) validators && (tells r || callsBack r))
 acceptedBy (tell f) r = 0
+acceptedBy (tidy time) r = 0
 
 -- a success answer: of a validator that answers yes or success, or of finish
 unfoldable pub successBy : Call → Answer → ℕ
 successBy (ask a) r = one (among (pathPart (a .target)) validators && tells r)
 successBy (tell f) r = one (tells r)
+successBy (tidy time) r = 0
 
 -- in a history; a refused call answers nothing
 unfoldable pub sumOf : (Call → Answer → ℕ) → List Event → ℕ
@@ -86,6 +89,7 @@ looksGood said = same (take 3 said) (ascii "yes") || same (take (length successS
 unfoldable pub Frank : Call → Answer → Text → Type 0
 Frank (ask a) r said = among (pathPart (a .target)) validators ≡ true → (tells r || callsBack r) ≡ false → looksGood said ≡ false
 Frank (tell f) r said = tells r ≡ false → looksGood said ≡ false
+Frank (tidy time) r said = Unit {0}
 
 unfoldable pub AllFrank : List Event → Type 0
 AllFrank [] = Unit {0}

@@ -1,8 +1,8 @@
--- Histories: the calls of answer and finish on one table, one after another, and what each of them gave back.
+-- Histories: the calls of answer, finish and housekeeping on one table, one after another, and what each of them gave back.
 use mathlib.Core.Bool.{Bool}
 use mathlib.Core.List.{List, [], _∷_}
 use Prim.Native.Nat.{ℕ}
-use Rattle.protocol.specs.Calls.{Result, inputs, answerOf, finishOf}
+use Rattle.protocol.specs.Calls.{Result, result, refusedOutcome, inputs, answerOf, finishOf, Numbered, housekeepOf}
 use Rattle.protocol.specs.declared.Method.{Method}
 use Rattle.protocol.specs.declared.Outcome.{Outcome}
 
@@ -29,15 +29,22 @@ pub record FinishCall : Type 0 where
   pub time : ℕ
   pub out : Text
 
+-- a call of housekeeping has its time only
 pub data Call : Type 0 where
   ask : AnswerCall → Call
   tell : FinishCall → Call
+  tidy : (time : ℕ) → Call
+
+-- housekeeping gives its number, and writes nothing but the table
+abbrev pub byNumber : Numbered → Result
+byNumber n = result (refusedOutcome (n .refusal)) (n .table) [] []
 
 -- what the call gives, by the same functions that the contracts of the public calls cite
 unfoldable pub served : Call → Text → Result
 served (ask a) table =
     answerOf (inputs table (a .register) (a .method) (a .target) (a .body) (a .cookie) (a .time) (a .random) (a .verdict) (a .out) (a .cookieOut))
 served (tell f) table = finishOf table (f .serial) (f .outcome) (f .time) (f .out)
+served (tidy time) table = byNumber (housekeepOf table time)
 
 -- what is seen of a call from outside: the call, its result, the output and the cookie output after it; not the table
 pub record Event : Type 0 where

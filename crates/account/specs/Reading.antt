@@ -12,7 +12,7 @@ use Rattle.protocol.specs.Answers.{numberOf, serialOf}
 use Rattle.protocol.specs.Steps.{unknownService}
 use Rattle.protocol.specs.declared.Answer.{Answer}
 use Rattle.protocol.specs.declared.Answer.the-variants as answer
-use Rattle.account.specs.History.{Text, AnswerCall, Call, ask, tell, Event}
+use Rattle.account.specs.History.{Text, AnswerCall, Call, ask, tell, tidy, Event}
 
 -- What a call says. An empty text is none, and a part whose first field is empty or false is none
 
@@ -169,10 +169,15 @@ readRequest a (Validate v (Given x)) r said cookie cleared = shows a (if (isEmpt
 readRequest a (Proxy Malformed) r said cookie cleared = quiet a false
 readRequest a (Proxy (Given w)) r said cookie cleared = says a noCredentials [] false [] (if (tells r) (proxyIn said) []) (w .target) [] (w .pgt)
 
+-- a call without a cookie: finish, which may settle a callback; housekeeping says its time and nothing else
+abbrev pub settles : ℕ → Bool → Bool → ℕ → Text → Said
+settles time settled outcome serial said =
+    record { time = time; cookie = []; by = noCredentials; opened = []; ended = false; form = []; issued = []; service = []; session = []; grant = []; showing = noShowing; settled = settled; outcome = outcome; serial = serial; said = said }
+
 unfoldable pub readCall : Call → Answer → Text → Text → Bool → Said
 readCall (ask a) r said cookie cleared = readRequest a (requestOf (a .method) (a .target) (a .body)) r said cookie cleared
-readCall (tell f) r said cookie cleared =
-    record { time = f .time; cookie = []; by = noCredentials; opened = []; ended = false; form = []; issued = []; service = []; session = []; grant = []; showing = noShowing; settled = tells r; outcome = f .outcome; serial = f .serial; said = said }
+readCall (tell f) r said cookie cleared = settles (f .time) (tells r) (f .outcome) (f .serial) said
+readCall (tidy time) r said cookie cleared = settles time false false 0 []
 
 -- the bytes of an answer
 abbrev pub saidIn : Event → Text

@@ -3,6 +3,7 @@
 //
 //   new TIME                                 the table is formatted
 //   check
+//   housekeep TIME
 //   get TIME TARGET COOKIE                   the cookie may be absent
 //   post TIME VERDICT TARGET BODY COOKIE     the verdict is yes or no
 //   finish TIME OUTCOME SERIAL               the outcome is yes or no
@@ -56,6 +57,7 @@ fn step(line: &[u8], table: [u8; 4608], register: &[u8]) -> [u8; 4608] {
     match letter {
         b'n' => format(line, table),
         b'c' => check(table),
+        b'h' => housekeep(line, table),
         b'g' => get(line, table, register),
         b'p' => post(line, table, register),
         b'f' => finish(line, table),
@@ -83,6 +85,12 @@ fn format(line: &[u8], table: [u8; 4608]) -> [u8; 4608] {
 fn check(table: [u8; 4608]) -> [u8; 4608] {
     show_refusal(signon::check(&table));
     table
+}
+
+fn housekeep(line: &[u8], table: [u8; 4608]) -> [u8; 4608] {
+    let mut after = table;
+    show_refusal(signon::housekeep(&mut after, time_of(line)));
+    after
 }
 
 // The table after a request.

@@ -1,4 +1,4 @@
-// The eight calls for a host that links the library: numbers as themselves, a slice as pointer and length, and a result as a lent list of
+// The nine calls for a host that links the library: numbers as themselves, a slice as pointer and length, and a result as a lent list of
 // numbers. A list of another length than the result has is refused: false, and nothing is written.
 use protocol::Fault;
 use protocol::Form;
@@ -8,7 +8,7 @@ use protocol::Visit;
 ghost use mathlib.Core.Path.{_≡_};
 ghost use mathlib.Core.List.{[]};
 ghost use lib.ListN.{length};
-ghost use Rattle.protocol.specs.Calls.{inputs, numbered, formatOf, checkOf};
+ghost use Rattle.protocol.specs.Calls.{inputs, numbered, formatOf, housekeepOf, checkOf};
 ghost use Rattle.protocol.specs.Panels.{made, panelOf};
 ghost use Rattle.export.specs.Numbers.{methodOf, outcomeNumbers, formNumbers, visitNumbers, faultNumbers};
 ghost use Rattle.export.specs.Numbers.{handed, answerHanded, finishHanded, visitHanded, formHanded, handedForm, faultHanded, handedFault};
@@ -71,6 +71,13 @@ pub extern "C" fn pyhtirso_format(table: &mut [u8], time: u64) -> u32
     ensures { λ r. ⌜ numbered r (now (table .exit)) ≡ formatOf (now (table .entry)) time ⌝ }
 {
     signon::format(table, time)
+}
+
+#[no_mangle]
+pub extern "C" fn pyhtirso_housekeep(table: &mut [u8], time: u64) -> u32
+    ensures { λ r. ⌜ numbered r (now (table .exit)) ≡ housekeepOf (now (table .entry)) time ⌝ }
+{
+    signon::housekeep(table, time)
 }
 
 #[no_mangle]

@@ -13,6 +13,8 @@
 //                                                 a table of that size, each byte fill, is formatted
 //   T                                             bytes
 //                                                 the table read back
+//   K  u64 time                                   u32 refusal, changed
+//                                                 housekeeping
 //   C                                             u32 refusal
 //                                                 check
 //   R  bytes body, u32, u32                       u32 refusal, bytes username, bytes password
@@ -35,6 +37,7 @@ mod answer_frame;
 mod finish_frame;
 mod form_frame;
 mod frame_out;
+mod housekeep_frame;
 mod panel_frame;
 mod table_frames;
 mod visit_frame;
@@ -43,6 +46,7 @@ use answer_frame::answer;
 use finish_frame::finish;
 use form_frame::read_form;
 use frame_out::reply_end;
+use housekeep_frame::housekeep;
 use lent::CUT;
 use lent::byte;
 use panel_frame::panel;
@@ -216,6 +220,7 @@ fn serve(
         b'G' => take_register(held, register, frame, out),
         b'A' => answer(held, table, old, register, frame, out),
         b'N' => finish(held, table, old, frame, out),
+        b'K' => housekeep(held, table, old, frame, out),
         _ => serve_table(letter, held, table, frame, out),
     }
 }

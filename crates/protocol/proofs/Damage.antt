@@ -15,7 +15,7 @@ use Rattle.protocol.specs.Blocks.{checkRight}
 use Rattle.protocol.specs.Records.{Rec, freeRec, recBody, encodeRec}
 use Rattle.protocol.specs.Table.{headBody, decodeTable, tableShape, tableLawful}
 use Rattle.protocol.specs.Register.{Entry, encodeEntry, decodeRegister, registerLawful}
-use Rattle.protocol.specs.Calls.{answerRefusal, finishRefusal, checkOf}
+use Rattle.protocol.specs.Calls.{answerRefusal, finishRefusal, housekeepRefusal, checkOf}
 use Rattle.protocol.specs.Visits.{visitRefusal}
 use Rattle.protocol.proofs.Laws.{both, lawful-bytes, lawful-fits, length-body}
 use Rattle.protocol.proofs.Places.{head-bytes, slot-bytes, slots-count}
@@ -142,6 +142,10 @@ module _ (b c : List ℕ) (e : checkOf b ≡ 0) (d : Damaged b c) where
   pub finish-damaged : (time out : ℕ) → finishRefusal c time out ≡ 2
   unfolding finishRefusal
   finish-damaged time out = rw (told .0, told .1)
+
+  pub housekeep-damaged : (time : ℕ) → housekeepRefusal c time ≡ 2
+  unfolding housekeepRefusal
+  housekeep-damaged time = rw (told .0, told .1)
 
   pub visit-damaged : (cookie : List ℕ) (number time random out : ℕ) → visitRefusal c cookie number time random out ≡ 2
   unfolding visitRefusal

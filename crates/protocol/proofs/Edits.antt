@@ -3,7 +3,7 @@
 use mathlib.Core.Path.{_≡_, refl, _∙_}
 use mathlib.Core.Bool.{Bool, true, false, _&&_}
 use mathlib.Core.List.{List, map}
-use Prim.Native.Nat.{ℕ, _+_, _%_, _≤_, _<_, max}
+use Prim.Native.Nat.{ℕ, _+_, _%_, _≤_, _<_}
 use native.Mathlib.Omega.{arith}
 use borrow.Author.Tests.{eqb-true, eqb-false, ne-eqb, leb-true, ltb-true}
 use lib.Dec.{eqb, leb, ltb}
@@ -13,7 +13,7 @@ use Rattle.protocol.specs.Tickets.{aFree, aLogin, aService, aGrant, aVis
 use Rattle.protocol.specs.Records.{Rec, freeRec, ownRight, serialRight, expiryRight}
 use Rattle.protocol.specs.Table.{Table, recAt}
 use Rattle.protocol.specs.Request.{Malformed, Given, Asked, Posted, Shown, Wanted, Request, NoPath, NotTaken, LoginGet, LoginPost, Logout, Validate, Proxy}
-use Rattle.protocol.specs.Steps.{Brought, Step, clearRec, endRec, tick, put, remove, endSession, slotNamed, sessionOf, slotFor, ticketSlot, newLogin, newSession, newService, newWaiting, newProxy, add, formWith, ticketWith, ticketStep, turned, leftBy, waitingWith, waitingSlot, finished, finish, proxyWith, loginGet, loginPost, logout, validate, proxy, requestStep}
+use Rattle.protocol.specs.Steps.{Brought, Step, endRec, tick, put, remove, endSession, slotNamed, sessionOf, slotFor, ticketSlot, newLogin, newSession, newService, newWaiting, newProxy, add, formWith, ticketWith, ticketStep, turned, leftBy, waitingWith, waitingSlot, finished, finish, proxyWith, loginGet, loginPost, logout, validate, proxy, requestStep}
 use Rattle.protocol.specs.declared.Validator.{Validator}
 use Rattle.protocol.proofs.Laws.{both, own}
 use Rattle.protocol.proofs.Courses.{FormCourse, shows, no-form, AdmitCourse, signed-in, tickets, StandCourse, stands, no-ticket, OpenCourse, opens, no-session, GetCourse, unknown, standing-by, away, form-shown, get-course, AcceptedCourse, fresh, kept, changed, PostCourse, again, enters, post-course, AcceptCourse, plainly, calls, tells, ShownCourse, lacks, none, spends, burns, accepts, shown-course, FinishCourse, raises, drops, finish-course, ProxyCourse, fails, issues, proxy-course, LeaveCourse, stays, ends, leave-course}
@@ -121,7 +121,7 @@ request-edits (Proxy (Given a)) g t = wanted-edits (proxy-course a g t)
 
 pub size-tick : (time : ℕ) (t : Table) → length (tick time t .slots) ≡ length (t .slots)
 unfolding tick
-size-tick time t = length-map (t .slots) (clearRec (max (t .clock) time))
+size-tick time t = refl
 
 pub size-edits : {t u : Table} → Edits t u → length (u .slots) ≡ length (t .slots)
 unfolding add endSession

@@ -1,24 +1,24 @@
 -- What holds of every call: the length of no table and of no buffer changes, what is told to have been written fits, and the next serial never falls.
 -- Assumes nothing.
-use mathlib.Core.Path.{_≡_, refl}
+use mathlib.Core.Path.{_≡_, refl, ap, _∙_}
 use mathlib.Core.Bool.{Bool, true, false, _&&_}
 use mathlib.Core.List.{List, [], _∷_}
 use Prim.Native.Nat.{ℕ, zero, suc, _-_, _/_, _%_, _≤_, max}
 use native.Mathlib.Omega.{arith}
 use borrow.Author.Tests.{eqb-true, leb-true}
 use lib.Dec.{eqb, leb}
-use lib.ListN.{length, getD, length-replicate}
+use lib.ListN.{length, getD, length-replicate, length-map}
 use Rattle.protocol.specs.Bytes.{if, within}
 use Rattle.protocol.specs.Records.{Rec, freeRec}
 use Rattle.protocol.specs.Table.{Table, encodeTable, decodeTable, tableShape, tableLawful, lastTime, formatted}
 use Rattle.protocol.specs.Request.{Read, Malformed, Given, Posted, posted, requestOf}
 use Rattle.protocol.specs.Answers.{replyText}
-use Rattle.protocol.specs.Steps.{Step, tick, finished, finish}
-use Rattle.protocol.specs.Calls.{Inputs, Result, refusal, brought, stepOf, outcomeWith, delivered, unchanged, answerOf, finishRefusal, finishOf, Numbered, formatRefusal, formatOf, formRefusal, FormRead, formBy, formRefused, formOf}
+use Rattle.protocol.specs.Steps.{Step, tick, clearRec, clear, finished, finish}
+use Rattle.protocol.specs.Calls.{Inputs, Result, refusal, brought, stepOf, outcomeWith, delivered, unchanged, answerOf, finishRefusal, finishOf, Numbered, formatRefusal, formatOf, housekeepRefusal, housekeepOf, formRefusal, FormRead, formBy, formRefused, formOf}
 use Rattle.protocol.specs.Visits.{isVisit, visitsIn, sessionAt, visitsOf, VisitRead, visitGiven, visitRefusal, visitSaid, visitOf}
 use Rattle.protocol.specs.Held.{AllFit}
 use Rattle.protocol.proofs.Laws.{both, fork, length-table, table-back}
-use Rattle.protocol.proofs.Sound.{Sound}
+use Rattle.protocol.proofs.Sound.{Sound, clear-sound}
 use Rattle.protocol.proofs.Proper.{ProperPosted, posted-proper}
 use Rattle.protocol.proofs.Visits.{visit-fits}
 use Rattle.protocol.proofs.Places.{slots-count}
@@ -27,7 +27,7 @@ use Rattle.protocol.proofs.Courses.{FinishCourse, none, raises, drops, 
 use Rattle.protocol.proofs.Sizes.{length-spliced, small-fits}
 use Rattle.protocol.proofs.Replies.{Fitting, finish-fits}
 use Rattle.protocol.proofs.StepSound.{finish-sound}
-use Rattle.protocol.proofs.Lasting.{passes, lawful-sound, passed, started, step-sound, step-fits, finishes, formatted-sound}
+use Rattle.protocol.proofs.Lasting.{passes, lawful-sound, passed, started, step-sound, step-fits, finishes, housekept, formatted-sound}
 
 -- The calls that answer over a table
 
@@ -43,15 +43,18 @@ pub record Kept (b o c : List ℕ) (r : Result) : Type 0 where
 unchanged-kept : (n : ℕ) (b out cookieOut : List ℕ) → Kept b out cookieOut (unchanged n b out cookieOut)
 unchanged-kept n b out cookieOut = record { table = refl; out = refl; cookie = refl; written = omega arith; cookie-written = omega arith; serials = omega arith }
 
+-- a table of as many slots is as long
+same-size : (b : List ℕ) → tableShape (length b) ≡ true → (t : Table) → Sound t → length (t .slots) ≡ length (decodeTable b .slots) → length (encodeTable t) ≡ length b
+same-size b h t s e =
+    let w = both (eqb (length b % 512) 0) (within 9 128 (length b / 512)) h in
+    let x = eqb-true (length b % 512) 0 (w .0) in
+    let y = leb-true 9 (length b / 512) (both (leb 9 (length b / 512)) (leb (length b / 512) 128) (w .1) .0) in
+    omega (arith, length-table t (s .fit), slots-count b)
+
 -- a step that edits the table after the clock, leaves it sound, and fits
 module _ (b : List ℕ) (time : ℕ) (h : tableShape (length b) ≡ true) (n : Sound (tick time (decodeTable b))) (s : Step) (e : Edits (tick time (decodeTable b)) (s .table)) (k : Sound (s .table)) (f : Fitting s) where
-  whole : (length b % 512 ≡ 0) × (9 ≤ length b / 512)
-  whole =
-      let w = both (eqb (length b % 512) 0) (within 9 128 (length b / 512)) h in
-      (eqb-true (length b % 512) 0 (w .0), leb-true 9 (length b / 512) (both (leb 9 (length b / 512)) (leb (length b / 512) 128) (w .1) .0))
-
   same-length : length (encodeTable (s .table)) ≡ length b
-  same-length = omega (arith, length-table (s .table) (k .fit), size-edits e, size-tick time (decodeTable b), slots-count b, whole .0, whole .1)
+  same-length = same-size b h (s .table) k (omega (arith, size-edits e, size-tick time (decodeTable b)))
 
   later-serial : reach (decodeTable b .next) ≤ reach (decodeTable (encodeTable (s .table)) .next)
   unfolding tick
@@ -120,6 +123,31 @@ format-kept table time = fork (λ (r : Numbered). length (r .table) ≡ length t
         let y = both (leb 9 (length table / 512)) (leb (length table / 512) 128) (w .1) in
         let s = formatted-sound (length table / 512 - 1) time (omega (arith, leb-true (length table / 512) 128 (y .1))) (leb-true time lastTime (q .0)) in
         omega (arith, length-table (formatted (length table / 512 - 1) time) (s .fit), formatted-slots (length table / 512 - 1) time, leb-true 9 (length table / 512) (y .0))
+
+-- housekeeping; the next serial is the one that it was
+size-clear : (t : Table) → length (clear t .slots) ≡ length (t .slots)
+unfolding clear
+size-clear t = length-map (t .slots) (clearRec (t .clock))
+
+same-next : (time : ℕ) (t : Table) → clear (tick time t) .next ≡ t .next
+unfolding clear tick
+same-next time t = refl
+
+pub housekeep-kept : (table : List ℕ) (time : ℕ) → length (housekeepOf table time .table) ≡ length table
+unfolding housekeepOf
+housekeep-kept table time =
+    fork (λ (r : Numbered). length (r .table) ≡ length table) (eqb (housekeepRefusal table time) 0)
+    (λ z. let p = housekept table time (eqb-true (housekeepRefusal table time) 0 z) in
+    same-size table (p .shape) (clear (tick time (decodeTable table))) (clear-sound (tick time (decodeTable table)) (p .sound)) (size-clear (tick time (decodeTable table)) ∙ size-tick time (decodeTable table)))
+    (λ z. refl)
+
+pub housekeep-serials : (table : List ℕ) (time : ℕ) → decodeTable (housekeepOf table time .table) .next ≡ decodeTable table .next
+unfolding housekeepOf
+housekeep-serials table time =
+    fork (λ (r : Numbered). decodeTable (r .table) .next ≡ decodeTable table .next) (eqb (housekeepRefusal table time) 0)
+    (λ z. let k = clear-sound (tick time (decodeTable table)) (housekept table time (eqb-true (housekeepRefusal table time) 0 z) .sound) in
+    ap (λ (t : Table). t .next) (table-back (clear (tick time (decodeTable table))) (k .fit) (omega (arith, k .rules .clock)) (k .next)) ∙ same-next time (decodeTable table))
+    (λ z. refl)
 
 -- the form reader
 pub record FormKept (u w : List ℕ) (f : FormRead) : Type 0 where

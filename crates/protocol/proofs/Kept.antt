@@ -12,7 +12,7 @@ use Rattle.protocol.specs.Tickets.{aFree, aSession, aService, aProxy, aG
 use Rattle.protocol.specs.Records.{Rec, freeRec, live, ownRight, fieldsRight, sinceRight, textRight, serialRight, expiryRight}
 use Rattle.protocol.specs.Table.{Table, tableOf, recAt, putAt, sessionRight, parentRight, grantRight, allRight, serialTaken, serialsDiffer, countKind, lastTime}
 use lib.Seq.{getD-set-other, getD-set-same}
-use Rattle.protocol.specs.Steps.{clearRec, endRec, tick, remove, endSession}
+use Rattle.protocol.specs.Steps.{clearRec, endRec, tick, clear, remove, endSession}
 use Rattle.protocol.proofs.Laws.{both, recRight, right-cons, Rules, or-both}
 
 -- a free record keeps every rule
@@ -74,26 +74,24 @@ pub same-links : (c n : ℕ) (old new : List Rec) (r : Rec) → recAt (r .sessio
 unfolding sessionRight parentRight grantRight
 same-links c n old new r es ep = (rw es, rw ep)
 
--- time passes: a record that is still live keeps its own rules
-later : (z a s : Bool) (c c′ : ℕ) (r : Rec) → c ≤ c′ → live c′ r ≡ true → if z a (s && expiryRight c r) ≡ true → if z a (s && expiryRight c′ r) ≡ true
+-- time passes: a record keeps its own rules
+later : (z a s : Bool) (c c′ : ℕ) (r : Rec) → c ≤ c′ → if z a (s && expiryRight c r) ≡ true → if z a (s && expiryRight c′ r) ≡ true
 unfolding expiryRight
-later true a s c c′ r o l h = h
-later false a s c c′ r o l h =
-    let p = both s (live c r && leb (r .expiry) (c + lifetime (r .kind))) h in
-    let q = both (live c r) (leb (r .expiry) (c + lifetime (r .kind))) (p .1) in
-    let m : leb (r .expiry) (c′ + lifetime (r .kind)) ≡ true = le-leb (r .expiry) (c′ + lifetime (r .kind)) (omega (arith, leb-true (r .expiry) (c + lifetime (r .kind)) (q .1))) in
-    rw (p .0, l, m)
+later true a s c c′ r o h = h
+later false a s c c′ r o h =
+    let p = both s (leb (r .expiry) (c + lifetime (r .kind))) h in
+    rw (p .0, le-leb (r .expiry) (c′ + lifetime (r .kind)) (omega (arith, leb-true (r .expiry) (c + lifetime (r .kind)) (p .1))))
 
 since-later : (z : Bool) (c c′ m : ℕ) → c ≤ c′ → if z (leb m c) (eqb m 0) ≡ true → if z (leb m c′) (eqb m 0) ≡ true
 since-later true c c′ m o h = le-leb m c′ (omega (arith, leb-true m c h))
 since-later false c c′ m o h = h
 
-pub own-later : (c c′ n : ℕ) (r : Rec) → c ≤ c′ → live c′ r ≡ true → ownRight c n r ≡ true → ownRight c′ n r ≡ true
+own-later : (c c′ n : ℕ) (r : Rec) → c ≤ c′ → ownRight c n r ≡ true → ownRight c′ n r ≡ true
 unfolding ownRight sinceRight
-own-later c c′ n r o l h =
+own-later c c′ n r o h =
     let p = both (fieldsRight r && sinceRight c r) (if (eqb (r .kind) aFree) (eqb (r .serial) 0 && eqb (r .expiry) 0) (serialRight n (r .serial) && expiryRight c r)) h in
     let f = both (fieldsRight r) (sinceRight c r) (p .0) in
-    rw (f .0, since-later (eqb (r .kind) aSession) c c′ (r .since) o (f .1)) (later (eqb (r .kind) aFree) (eqb (r .serial) 0 && eqb (r .expiry) 0) (serialRight n (r .serial)) c c′ r o l (p .1))
+    rw (f .0, since-later (eqb (r .kind) aSession) c c′ (r .since) o (f .1)) (later (eqb (r .kind) aFree) (eqb (r .serial) 0 && eqb (r .expiry) 0) (serialRight n (r .serial)) c c′ r o (p .1))
 
 -- What the session rule says of a record: it names none, or one that lasts as long
 pub data SessionView (slots : List Rec) (r : Rec) : Type 0 where
@@ -172,12 +170,26 @@ recs3 c n slots r e =
     let q = both (ownRight c n r) (sessionRight slots r) (p .0) in
     (q .0, q .1, p .1)
 
-module _ (c c′ n : ℕ) (o : c ≤ c′) (old : List Rec) (all : allRight c n old old ≡ true) where
-  -- a record that lasts longer than c′ stays where it is
-  stays-at : (k : ℕ) → c′ < recAt k old .expiry → recAt k (map (clearRec c′) old) ≡ recAt k old
-  stays-at k h = clear-slot c′ old k ∙ rw (lt-ltb c′ (recAt k old .expiry) h)
+-- the clock's move keeps the rules
+later-right : (c c′ n : ℕ) → c ≤ c′ → (slots : List Rec) (r : Rec) → recRight c n slots r ≡ true → recRight c′ n slots r ≡ true
+later-right c c′ n o slots r e = let p = recs3 c n slots r e in rw (own-later c c′ n r o (p .0), p .1, p .2)
 
-  session-stays : (r : Rec) → c′ < r .expiry → SessionView old r → recAt (r .session) (map (clearRec c′) old) ≡ recAt (r .session) old
+pub tick-rules : (time : ℕ) (t : Table) → time ≤ lastTime → Rules t → Rules (tick time t)
+unfolding tick
+tick-rules time t h r =
+    record {
+      clock = omega (arith, r .clock);
+      records = right-all (max (t .clock) time) (t .next) (t .slots) (t .slots) (λ k. later-right (t .clock) (max (t .clock) time) (t .next) (omega arith) (t .slots) (recAt (suc k) (t .slots)) (right-slot (t .clock) (t .next) (t .slots) (r .records) (suc k)));
+      serials = r .serials;
+      logins = r .logins;
+    }
+
+module _ (c n : ℕ) (old : List Rec) (all : allRight c n old old ≡ true) where
+  -- a record that is live stays where it is
+  stays-at : (k : ℕ) → c < recAt k old .expiry → recAt k (map (clearRec c) old) ≡ recAt k old
+  stays-at k h = clear-slot c old k ∙ rw (lt-ltb c (recAt k old .expiry) h)
+
+  session-stays : (r : Rec) → c < r .expiry → SessionView old r → recAt (r .session) (map (clearRec c) old) ≡ recAt (r .session) old
   session-stays r l (unnamed h e) = rw e
   session-stays r l (named h e m g) = stays-at (r .session) (omega arith)
 
@@ -187,35 +199,35 @@ module _ (c c′ n : ℕ) (o : c ≤ c′) (old : List Rec) (all : allRight c n 
   grant-lasts r p h s k (named a b m g) (unnamed x y) = absurd (omega arith)
   grant-lasts r p h s k (named a b m g) (named x y z w) = let e = w k in let q : recAt (p .session) old ≡ recAt (r .session) old = rw s in omega (arith, ap (λ (u : Rec). u .expiry) q)
 
-  parent-stays : (r : Rec) → c′ < r .expiry → SessionView old r → ParentView old r → recAt (r .parent) (map (clearRec c′) old) ≡ recAt (r .parent) old
+  parent-stays : (r : Rec) → c < r .expiry → SessionView old r → ParentView old r → recAt (r .parent) (map (clearRec c) old) ≡ recAt (r .parent) old
   parent-stays r l v (orphan e) = rw e
   parent-stays r l v (of-session k n e) = rw e (session-stays r l v)
   parent-stays r l v (of-grant h k s) =
       let w : SessionView old (recAt (r .parent) old) = session-view old (recAt (r .parent) old) (recs3 c n old (recAt (r .parent) old) (right-slot c n old all (r .parent)) .1) in
       stays-at (r .parent) (omega (arith, grant-lasts r (recAt (r .parent) old) h s k v w))
 
-  cleared-right : (r : Rec) → recRight c n old r ≡ true → (z : Bool) → live c′ r ≡ z → recRight c′ n (map (clearRec c′) old) (if z r freeRec) ≡ true
+  cleared-right : (r : Rec) → recRight c n old r ≡ true → (z : Bool) → live c r ≡ z → recRight c n (map (clearRec c) old) (if z r freeRec) ≡ true
   cleared-right r e true h =
-      let l : c′ < r .expiry = ltb-true c′ (r .expiry) h in
+      let l : c < r .expiry = ltb-true c (r .expiry) h in
       let p = recs3 c n old r e in
       let v = session-view old r (p .1) in
       let w = parent-view old r (p .2) in
-      let s = same-links c n old (map (clearRec c′) old) r (session-stays r l v) (parent-stays r l v w) in
-      rw (own-later c c′ n r o h (p .0), s .0, s .1, p .1, p .2)
-  cleared-right r e false h = free-right c′ n (map (clearRec c′) old)
+      let s = same-links c n old (map (clearRec c) old) r (session-stays r l v) (parent-stays r l v w) in
+      rw (p .0, s .0, s .1, p .1, p .2)
+  cleared-right r e false h = free-right c n (map (clearRec c) old)
 
-  pub clear-right : allRight c′ n (map (clearRec c′) old) (map (clearRec c′) old) ≡ true
-  clear-right = right-all c′ n (map (clearRec c′) old) (map (clearRec c′) old) (λ k. rw (clear-slot c′ old (suc k)) (cleared-right (recAt (suc k) old) (right-slot c n old all (suc k)) (live c′ (recAt (suc k) old)) refl))
+  pub clear-right : allRight c n (map (clearRec c) old) (map (clearRec c) old) ≡ true
+  clear-right = right-all c n (map (clearRec c) old) (map (clearRec c) old) (λ k. rw (clear-slot c old (suc k)) (cleared-right (recAt (suc k) old) (right-slot c n old all (suc k)) (live c (recAt (suc k) old)) refl))
 
--- the clock's move and the clearing keep the rules
-pub tick-rules : (time : ℕ) (t : Table) → time ≤ lastTime → Rules t → Rules (tick time t)
-unfolding tick
-tick-rules time t h r =
+-- so does the clearing
+pub clear-rules : (t : Table) → Rules t → Rules (clear t)
+unfolding clear
+clear-rules t r =
     record {
-      clock = omega (arith, r .clock);
-      records = clear-right (t .clock) (max (t .clock) time) (t .next) (omega arith) (t .slots) (r .records);
-      serials = pruned-differ (clear-pruned (max (t .clock) time) (t .slots)) (r .serials);
-      logins = omega (arith, r .logins, pruned-count 0 (clear-pruned (max (t .clock) time) (t .slots)));
+      clock = r .clock;
+      records = clear-right (t .clock) (t .next) (t .slots) (r .records);
+      serials = pruned-differ (clear-pruned (t .clock) (t .slots)) (r .serials);
+      logins = omega (arith, r .logins, pruned-count 0 (clear-pruned (t .clock) (t .slots)));
     }
 
 -- Removal

@@ -12,11 +12,11 @@ use Rattle.protocol.specs.Records.{Rec, freeRec, decodeRec}
 use Rattle.protocol.specs.Table.{decodeTable, tableShape, tableLawful, lastTime, allRight, serialsDiffer, countKind, formatted, loginCap}
 use Rattle.protocol.specs.Register.{registerLawful}
 use Rattle.protocol.specs.Request.{requestOf}
-use Rattle.protocol.specs.Steps.{tick, finish}
-use Rattle.protocol.specs.Calls.{Inputs, answerRefusal, refusal, brought, stepOf, delivered, answerOf, finishRefusal, finishOf, formatRefusal, formatOf, checkOf, unless, sizesRight, requestFits}
+use Rattle.protocol.specs.Steps.{tick, clear, finish}
+use Rattle.protocol.specs.Calls.{Inputs, answerRefusal, refusal, brought, stepOf, delivered, answerOf, finishRefusal, finishOf, formatRefusal, formatOf, checkOf, unless, sizesRight, requestFits, housekeepRefusal, housekeepOf}
 use Rattle.protocol.specs.Held.{AllFit}
 use Rattle.protocol.proofs.Laws.{both, rules, lawful-rules, lawful-fits, lawful-next}
-use Rattle.protocol.proofs.Sound.{Sound, sound-lawful, tick-sound, free-fits}
+use Rattle.protocol.proofs.Sound.{Sound, sound-lawful, tick-sound, clear-sound, free-fits}
 use Rattle.protocol.proofs.Kept.{free-right}
 use Rattle.protocol.proofs.Proper.{request-proper}
 use Rattle.protocol.proofs.Replies.{Fitting, request-fits}
@@ -126,6 +126,25 @@ pub finish-lasts : (table : List ℕ) (serial : ℕ) (outcome : Bool) (time : �
 unfolding finishOf delivered
 finish-lasts table serial outcome time out e =
     rw e (sound-lawful (finish serial outcome (tick time (decodeTable table)) .table) (finish-sound serial outcome (tick time (decodeTable table)) (finishes table time out e .sound)))
+
+-- so does housekeeping
+
+-- what it knows where it is not refused
+pub record Housekept (table : List ℕ) (time : ℕ) : Type 0 where
+  pub shape : tableShape (length table) ≡ true
+  pub sound : Sound (tick time (decodeTable table))
+
+pub housekept : (table : List ℕ) (time : ℕ) → housekeepRefusal table time ≡ 0 → Housekept table time
+unfolding housekeepRefusal
+housekept table time e =
+    let p1 = passes (tableShape (length table)) 1 _ (omega arith) e in
+    let p2 = passes (tableLawful table) 2 _ (omega arith) (p1 .1) in
+    let p6 = passes (leb time lastTime) 6 0 (omega arith) (p2 .1) in
+    record { shape = p1 .0; sound = tick-sound time (decodeTable table) (leb-true time lastTime (p6 .0)) (lawful-sound table (p1 .0) (p2 .0)) }
+
+pub housekeep-lasts : (table : List ℕ) (time : ℕ) → housekeepRefusal table time ≡ 0 → tableLawful (housekeepOf table time .table) ≡ true
+unfolding housekeepOf
+housekeep-lasts table time e = rw e (sound-lawful (clear (tick time (decodeTable table))) (clear-sound (tick time (decodeTable table)) (housekept table time e .sound)))
 
 -- and a formatted table is lawful
 frees-fit : (n : ℕ) → AllFit (replicate n freeRec)

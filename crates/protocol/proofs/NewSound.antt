@@ -74,7 +74,7 @@ module _ (random : List ℕ) (h : length random ≡ 48) (t : Table) (s : Sound t
   login-right : recRight (t .clock) ((t .next + 1) % 4294967296) (t .slots) (newRec 1 0 0 0 0 [] random t) ≡ true
   unfolding newRec sessionRight parentRight markMost depthLeast depthMost textLeast textMost allWithin
   login-right =
-      rw (new-own 1 0 0 0 0 [] random t (new-kind random h 1 (omega arith) (omega arith)) (omega arith) (omega arith) (omega arith) (omega arith) (omega arith) refl (λ e. absurd (let z : _≡_ {A = ℕ} 0 1 = cc in omega arith)) (m .serial) (s .next))
+      rw (new-own 1 0 0 0 0 [] random t (new-kind random h 1 (omega arith) (omega arith)) (omega arith) (omega arith) (omega arith) (omega arith) (omega arith) refl (m .serial) (s .next))
 
   pub login-sound : countKind aLogin (t .slots) < loginCap → Sound (add (newRec 1 0 0 0 0 [] random t) t)
   unfolding newRec
@@ -88,11 +88,11 @@ module _ (random : List ℕ) (h : length random ≡ 48) (t : Table) (s : Sound t
   session-sound user lo hi w =
       add-sound (newRec 2 0 0 0 0 user random t) t m refl
       (linked (newRec 2 0 0 0 0 user random t) t ((t .next + 1) % 4294967296) (zero-slot 0 refl) (zero-slot 0 refl)
-      (rw (new-own 2 0 0 0 0 user random t (new-kind random h 2 (omega arith) (omega arith)) (omega arith) (omega arith) (omega arith) lo hi w (λ e. absurd (let z : _≡_ {A = ℕ} 0 1 = cc in omega arith)) (m .serial) (s .next))))
+      (rw (new-own 2 0 0 0 0 user random t (new-kind random h 2 (omega arith) (omega arith)) (omega arith) (omega arith) (omega arith) lo hi w (m .serial) (s .next))))
       (omega (arith, s .rules .logins)) (new-fits 2 0 0 0 0 user random t (omega arith) (omega arith) (omega arith) h s) s
 
   -- a service ticket of a live session
-  module _ (k : ℕ) (p : 1 ≤ k) (is : recAt k (t .slots) .kind ≡ 2) (l : t .clock < recAt k (t .slots) .expiry) where
+  module _ (k : ℕ) (p : 1 ≤ k) (is : recAt k (t .slots) .kind ≡ 2) where
     held : recAt k (t .slots) .kind ≡ 0 → ⊥
     held e = omega arith
 
@@ -107,13 +107,13 @@ module _ (random : List ℕ) (h : length random ≡ 48) (t : Table) (s : Sound t
       pub service-sound : mark ≤ 1 → 1 ≤ length service → length service ≤ 200 → allWithin 32 126 service ≡ true → Sound (add newTicket t)
       unfolding markMost depthLeast depthMost textLeast textMost
       service-sound hm lo hi w =
-          let own = new-own 3 mark k k 0 service random t (new-kind random h 3 (omega arith) (omega arith)) hm (omega arith) (omega arith) lo hi w (λ e. l) (m .serial) (s .next) in
+          let own = new-own 3 mark k k 0 service random t (new-kind random h 3 (omega arith) (omega arith)) hm (omega arith) (omega arith) lo hi w (m .serial) (s .next) in
           let sess = new-session 3 mark k k 0 service random t (omega arith) (omega arith) p is in
           let q = ticket-links in
           add-sound newTicket t m (q .3) (linked newTicket t ((t .next + 1) % 4294967296) (q .0) (q .1) (rw (own, sess, q .2))) (rw (q .4) (omega (arith, s .rules .logins)))
           (new-fits 3 mark k k 0 service random t (small k held) (small k held) hi h s) s
 
--- What a waiting grant stands on, in the table without the ticket: a live session, and no parent or a grant of that session
+-- What a waiting grant stands on, in the table without the ticket: a session, and no parent or a grant of that session
 
 pub data ParentBase (t : Table) (parent session : ℕ) : Type 0 where
   none-above : parent ≡ 0 → ParentBase t parent session
@@ -122,7 +122,6 @@ pub data ParentBase (t : Table) (parent session : ℕ) : Type 0 where
 pub record Base (t : Table) (parent session : ℕ) : Type 0 where
   pub some : 1 ≤ session
   pub is : recAt session (t .slots) .kind ≡ 2
-  pub lasts : t .clock < recAt session (t .slots) .expiry
   pub above : ParentBase t parent session
 
 -- A waiting grant
@@ -150,7 +149,7 @@ module _ (random : List ℕ) (h : length random ≡ 48) (t : Table) (s : Sound t
     pub waiting-sound : mark ≤ 1 → recAt parent (t .slots) .depth + 1 ≤ deepest → 1 ≤ length url → length url ≤ 200 → allWithin 32 126 url ≡ true → Sound (add waiting t)
     unfolding markMost depthLeast depthMost textLeast textMost
     waiting-sound hm hd lo hi w =
-        let own = new-own 5 mark parent session (recAt parent (t .slots) .depth + 1) url random t (new-kind random h 5 (omega arith) (omega arith)) hm (omega arith) hd lo hi w (λ e. b .lasts) (m .serial) (s .next) in
+        let own = new-own 5 mark parent session (recAt parent (t .slots) .depth + 1) url random t (new-kind random h 5 (omega arith) (omega arith)) hm (omega arith) hd lo hi w (m .serial) (s .next) in
         let sess = new-session 5 mark parent session (recAt parent (t .slots) .depth + 1) url random t (omega arith) (omega arith) (b .some) (b .is) in
         let p = parent-ok (b .above) in
         let f = facts in
@@ -167,9 +166,9 @@ module _ (random : List ℕ) (h : length random ≡ 48) (t : Table) (s : Sound t
   abbrev proxyRec : Rec
   proxyRec = newRec 4 0 k session 0 target random t
 
-  under : SessionView (t .slots) (recAt k (t .slots)) → (recAt session (t .slots) .kind ≡ 2) × (t .clock < recAt session (t .slots) .expiry)
+  under : SessionView (t .slots) (recAt k (t .slots)) → recAt session (t .slots) .kind ≡ 2
   under (unnamed a b) = absurd (omega (arith, l .is))
-  under (named a b c d) = (b, omega (arith, l .lasts))
+  under (named a b c d) = b
 
   proxy-links : (parentRight (t .slots) proxyRec ≡ true) × (proxyRec .serial ≡ t .next) × (proxyRec .kind ≡ 4) × (proxyRec .session ≡ session) × (proxyRec .parent ≡ k)
   unfolding newRec parentRight grantRight
@@ -179,9 +178,9 @@ module _ (random : List ℕ) (h : length random ≡ 48) (t : Table) (s : Sound t
   unfolding markMost depthLeast depthMost textLeast textMost
   proxy-ticket-sound lo hi w =
       let u = under (view t s k) in
-      let own = new-own 4 0 k session 0 target random t (new-kind random h 4 (omega arith) (omega arith)) (omega arith) (omega arith) (omega arith) lo hi w (λ e. u .1) (m .serial) (s .next) in
-      let sess = new-session 4 0 k session 0 target random t (omega arith) (omega arith) (slot-some t s session (u .0)) (u .0) in
+      let own = new-own 4 0 k session 0 target random t (new-kind random h 4 (omega arith) (omega arith)) (omega arith) (omega arith) (omega arith) lo hi w (m .serial) (s .next) in
+      let sess = new-session 4 0 k session 0 target random t (omega arith) (omega arith) (slot-some t s session u) u in
       let f = proxy-links in
-      add-sound proxyRec t m (f .1) (linked proxyRec t ((t .next + 1) % 4294967296) (rw (f .3) (not-new random h t s m session (λ x. omega (arith, u .0)))) (rw (f .4) (not-new random h t s m k (λ x. omega (arith, l .is)))) (rw (own, sess, f .0)))
+      add-sound proxyRec t m (f .1) (linked proxyRec t ((t .next + 1) % 4294967296) (rw (f .3) (not-new random h t s m session (λ x. omega (arith, u)))) (rw (f .4) (not-new random h t s m k (λ x. omega (arith, l .is)))) (rw (own, sess, f .0)))
       (rw (f .2) (omega (arith, s .rules .logins)))
-      (new-fits 4 0 k session 0 target random t (small random h t s m k (λ x. omega (arith, l .is))) (small random h t s m session (λ x. omega (arith, u .0))) hi h s) s
+      (new-fits 4 0 k session 0 target random t (small random h t s m k (λ x. omega (arith, l .is))) (small random h t s m session (λ x. omega (arith, u))) hi h s) s

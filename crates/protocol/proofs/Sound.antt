@@ -2,7 +2,7 @@
 use mathlib.Core.Path.{_≡_, refl}
 use mathlib.Core.Bool.{Bool, true, false}
 use mathlib.Core.List.{List, [], _∷_, map}
-use Prim.Native.Nat.{ℕ, zero, suc, _+_, _-_, _%_, _≤_, _<_, min, max}
+use Prim.Native.Nat.{ℕ, zero, suc, _+_, _-_, _%_, _≤_, _<_, min}
 use native.Mathlib.Omega.{arith}
 use borrow.Author.Tests.{eqb-false, le-leb, lt-ltb}
 use lib.Dec.{eqb, leb, ltb}
@@ -12,10 +12,10 @@ use Rattle.protocol.specs.Bytes.{if, allWithin, zeros, padTo, part}
 use Rattle.protocol.specs.Tickets.{aFree, aLogin, aSession, aWaiting, lifetime, secretLength, secretFrom, iouFrom, markMost, depthLeast, depthMost, textLeast, textMost, sinceFrom}
 use Rattle.protocol.specs.Records.{Rec, freeRec, live, ownRight, fieldsRight, textRight, serialRight, expiryRight, sinceRight, lettersRight}
 use Rattle.protocol.specs.Table.{Table, recAt, putAt, encodeTable, tableLawful, countKind, loginCap, lastTime}
-use Rattle.protocol.specs.Steps.{clearRec, endRec, tick, remove, endSession, slotFor, expiryFor, newRec, add}
+use Rattle.protocol.specs.Steps.{clearRec, endRec, tick, clear, remove, endSession, slotFor, expiryFor, newRec, add}
 use Rattle.protocol.specs.Held.{Fits, AllFit}
 use Rattle.protocol.proofs.Laws.{length-pad, recRight, Rules, rules, rules-hold, lawful-written, part-long}
-use Rattle.protocol.proofs.Kept.{Unnamed, tick-rules, remove-rules, end-rules}
+use Rattle.protocol.proofs.Kept.{Unnamed, tick-rules, clear-rules, remove-rules, end-rules}
 use Rattle.protocol.proofs.Added.{Room, add-rules}
 
 pub record Sound (t : Table) : Type 0 where
@@ -70,8 +70,18 @@ tick-sound time t h s =
     record {
       rules = tick-rules time t h (s .rules);
       next = s .next;
-      fit = fit-map (clearRec (max (t .clock) time)) (λ r f. either-fits (live (max (t .clock) time) r) r freeRec f free-fits) (t .slots) (s .fit);
-      few = rw (length-map (t .slots) (clearRec (max (t .clock) time))) (s .few);
+      fit = s .fit;
+      few = s .few;
+    }
+
+pub clear-sound : (t : Table) → Sound t → Sound (clear t)
+unfolding clear
+clear-sound t s =
+    record {
+      rules = clear-rules t (s .rules);
+      next = s .next;
+      fit = fit-map (clearRec (t .clock)) (λ r f. either-fits (live (t .clock) r) r freeRec f free-fits) (t .slots) (s .fit);
+      few = rw (length-map (t .slots) (clearRec (t .clock))) (s .few);
     }
 
 pub remove-sound : (k : ℕ) (t : Table) → Unnamed k (t .slots) → Sound t → Sound (remove k t)
@@ -169,17 +179,16 @@ pub record Kind (kind : ℕ) (random : List ℕ) : Type 0 where
   pub taken : eqb kind aFree ≡ false
   pub rest : allWithin 0 0 (drop (secretLength kind) (padTo 16 (secretFrom kind random))) ≡ true
   pub iou : if (eqb kind aWaiting) true (allWithin 0 0 (iouFrom kind random)) ≡ true
-  pub lasts : 1 ≤ lifetime kind
 
 module _ (random : List ℕ) (h : length random ≡ 48) where
   pub new-kind : (kind : ℕ) → 1 ≤ kind → kind ≤ 5 → Kind kind random
   unfolding secretFrom iouFrom allWithin
   new-kind zero a b = absurd (omega arith)
-  new-kind (suc zero) a b = record { known = omega arith; taken = refl; rest = short-tail random h; iou = refl; lasts = omega arith }
-  new-kind (suc (suc zero)) a b = record { known = omega arith; taken = refl; rest = long-tail random h; iou = refl; lasts = omega arith }
-  new-kind (suc (suc (suc zero))) a b = record { known = omega arith; taken = refl; rest = short-tail random h; iou = refl; lasts = omega arith }
-  new-kind (suc (suc (suc (suc zero)))) a b = record { known = omega arith; taken = refl; rest = short-tail random h; iou = refl; lasts = omega arith }
-  new-kind (suc (suc (suc (suc (suc zero))))) a b = record { known = omega arith; taken = refl; rest = long-tail random h; iou = refl; lasts = omega arith }
+  new-kind (suc zero) a b = record { known = omega arith; taken = refl; rest = short-tail random h; iou = refl }
+  new-kind (suc (suc zero)) a b = record { known = omega arith; taken = refl; rest = long-tail random h; iou = refl }
+  new-kind (suc (suc (suc zero))) a b = record { known = omega arith; taken = refl; rest = short-tail random h; iou = refl }
+  new-kind (suc (suc (suc (suc zero)))) a b = record { known = omega arith; taken = refl; rest = short-tail random h; iou = refl }
+  new-kind (suc (suc (suc (suc (suc zero))))) a b = record { known = omega arith; taken = refl; rest = long-tail random h; iou = refl }
   new-kind (suc (suc (suc (suc (suc (suc k)))))) a b = absurd (omega arith)
 
 -- its own serial is issued by being taken
@@ -191,20 +200,16 @@ serial-taken n h g = rw (le-leb 1 n h) (go (eqb ((n + 1) % 4294967296) 0) refl)
     go true w = refl
     go false w = let x = eqb-false ((n + 1) % 4294967296) 0 w in lt-ltb n ((n + 1) % 4294967296) (omega arith)
 
-expiry-new : (z : Bool) (c l x : ℕ) → 1 ≤ l → (z ≡ false → c < x) → c < if z (c + l) (min (c + l) x)
-expiry-new true c l x h g = omega arith
-expiry-new false c l x h g = let y = g refl in omega arith
-
 since-new : (z : Bool) (c : ℕ) → if z (leb (if z c 0) c) (eqb (if z c 0) 0) ≡ true
 since-new true c = le-leb c c (omega arith)
 since-new false c = refl
 
 pub new-own : (kind mark parent session depth : ℕ) (text random : List ℕ) (t : Table) → Kind kind random
     → mark ≤ markMost kind → depthLeast kind ≤ depth → depth ≤ depthMost kind → textLeast kind ≤ length text → length text ≤ textMost kind → lettersRight kind text ≡ true
-    → (eqb session 0 ≡ false → t .clock < recAt session (t .slots) .expiry) → 1 ≤ t .next → t .next < 4294967296
+    → 1 ≤ t .next → t .next < 4294967296
     → ownRight (t .clock) ((t .next + 1) % 4294967296) (newRec kind mark parent session depth text random t) ≡ true
 unfolding ownRight fieldsRight sinceRight sinceFrom textRight newRec expiryRight expiryFor
-new-own kind mark parent session depth text random t k hm hd hd′ ht ht′ hw hx h g =
+new-own kind mark parent session depth text random t k hm hd hd′ ht ht′ hw h g =
     rw (
       le-leb kind 7 (k .known),
       le-leb mark (markMost kind) hm,
@@ -218,6 +223,5 @@ new-own kind mark parent session depth text random t k hm hd hd′ ht ht′ hw h
       since-new (eqb kind aSession) (t .clock),
       k .taken,
       serial-taken (t .next) h g,
-      lt-ltb (t .clock) _ (expiry-new (eqb session 0) (t .clock) (lifetime kind) (recAt session (t .slots) .expiry) (k .lasts) hx),
       le-leb _ (t .clock + lifetime kind) (expiry-most (eqb session 0) (t .clock + lifetime kind) (recAt session (t .slots) .expiry)),
     )

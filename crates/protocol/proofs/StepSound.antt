@@ -31,7 +31,7 @@ module _ (random : List ℕ) (h : length random ≡ 48) where
   unfolding ticketStep ticketWith
   admit-sound (signed-in e) hm p l s = s
   admit-sound {mark = mark} {k = k} {service = service} {t = t} (tickets e m) hm p l s =
-      service-sound random h t s m k (l .some) (l .is) (l .lasts) mark service hm (filled service e) (p .short) (p .bytes)
+      service-sound random h t s m k (l .some) (l .is) mark service hm (filled service e) (p .short) (p .bytes)
 
   stand-sound : {mark k : ℕ} {service : List ℕ} {t : Table} {x : Step} → StandCourse mark k service random t x → mark ≤ 1 → Plain 200 service → Live aSession t k → Sound t → Sound (x .table)
   stand-sound (stands c) hm p l s = admit-sound c hm p l s
@@ -105,7 +105,7 @@ leave-sound {cookie} {t} (ends l) s = end-sound (sessionOf cookie t) t (l .some)
 finished-sound : {serial : ℕ} {outcome : Bool} {t : Table} {x : Step} → FinishCourse serial outcome t x → Sound t → Sound (x .table)
 unfolding finished
 finished-sound (none e) s = s
-finished-sound {serial = serial} {t = t} (raises o l) s = turned-sound t s (waitingSlot serial t) (l .some) (granting refl refl) (l .is) (l .lasts)
+finished-sound {serial = serial} {t = t} (raises o l) s = turned-sound t s (waitingSlot serial t) (l .some) (granting refl refl) (l .is)
 finished-sound {serial = serial} {t = t} (drops o l) s = spend-sound (waitingSlot serial t) t s (l .some) (λ q. omega (arith, l .is)) (λ q. omega (arith, l .is))
 
 pub finish-sound : (serial : ℕ) (outcome : Bool) (t : Table) → Sound t → Sound (finish serial outcome t .table)

@@ -2,15 +2,15 @@
 use mathlib.Core.Path.{_≡_, refl, sym, ap, _∙_}
 use mathlib.Core.Bool.{Bool, true, false, _&&_}
 use mathlib.Core.List.{List, [], _∷_}
-use Prim.Native.Nat.{ℕ, zero, suc, _+_, _≤_, _<_}
+use Prim.Native.Nat.{ℕ, zero, suc, _+_, _≤_}
 use native.Mathlib.Omega.{arith}
-use borrow.Author.Tests.{eq-eqb, ne-eqb, eqb-true, eqb-false, leb-true, le-leb, lt-ltb}
+use borrow.Author.Tests.{eq-eqb, ne-eqb, eqb-true, eqb-false, leb-true, le-leb}
 use lib.Dec.{eqb, leb}
 use lib.Seq.{set-set}
 use lib.ListN.{length, getD, set, drop}
 use Rattle.protocol.specs.Bytes.{if, allWithin, within}
 use Rattle.protocol.specs.Tickets.{aFree, aLogin, aService, aProxy, aWaiting, aGrant, aVisit, lifetime, markMost, depthLeast, depthMost, textLeast, textMost, deepest}
-use Rattle.protocol.specs.Records.{Rec, freeRec, live, ownRight, fieldsRight, textRight, serialRight, expiryRight, sinceRight}
+use Rattle.protocol.specs.Records.{Rec, freeRec, ownRight, fieldsRight, textRight, serialRight, expiryRight, sinceRight}
 use Rattle.protocol.specs.Table.{Table, recAt, putAt, sessionRight, parentRight, grantRight, serialTaken, serialsDiffer, countKind}
 use Rattle.protocol.specs.Steps.{put, remove, proxyParent, turned, leftBy}
 use Rattle.protocol.specs.Held.{Fits}
@@ -52,7 +52,6 @@ module _ (t : Table) (s : Sound t) where
         record {
           some = slot-some t s (r .session) b;
           is = ap (λ (u : Rec). u .kind) x ∙ b;
-          lasts = omega (arith, ap (λ (u : Rec). u .expiry) x, z .lasts, ap (λ (u : Rec). u .expiry) e);
           above = above-of r (named a b c d) w (eqb (r .kind) aProxy) refl;
         }
 
@@ -156,11 +155,10 @@ module _ (t : Table) (s : Sound t) where
       = own (t .clock) (t .next) (recAt j (t .slots)) (own-of j) .life in
       let q : serialRight (t .next) (recAt j (t .slots) .serial) && expiryRight (t .clock) (recAt j (t .slots)) ≡ true = rw e at o in
       let a = both (serialRight (t .next) (recAt j (t .slots) .serial)) (expiryRight (t .clock) (recAt j (t .slots))) q in
-      let b = both (live (t .clock) (recAt j (t .slots))) (leb (recAt j (t .slots) .expiry) (t .clock + lifetime (recAt j (t .slots) .kind))) (a .1) in
-      (a .0, leb-true (recAt j (t .slots) .expiry) (t .clock + lifetime (recAt j (t .slots) .kind)) (b .1))
+      (a .0, leb-true (recAt j (t .slots) .expiry) (t .clock + lifetime (recAt j (t .slots) .kind)) (a .1))
 
 -- its rules, from the old record's and its session's
-module _ (t : Table) (s : Sound t) (k : ℕ) (p : 1 ≤ k) {a b : ℕ} (w : Turn a b) (is : recAt k (t .slots) .kind ≡ a) (l : t .clock < recAt k (t .slots) .expiry) where
+module _ (t : Table) (s : Sound t) (k : ℕ) (p : 1 ≤ k) {a b : ℕ} (w : Turn a b) (is : recAt k (t .slots) .kind ≡ a) where
   abbrev old : Rec
   old = recAt k (t .slots)
 
@@ -175,20 +173,20 @@ module _ (t : Table) (s : Sound t) (k : ℕ) (p : 1 ≤ k) {a b : ℕ} (w : Turn
   unfolding turned
   new-facts = (refl, refl, refl, refl, refl)
 
-  old-session : SessionView (t .slots) old → (recAt (old .session) (t .slots) .kind ≡ 2) × (t .clock < recAt (old .session) (t .slots) .expiry)
+  old-session : SessionView (t .slots) old → recAt (old .session) (t .slots) .kind ≡ 2
   old-session (unnamed x y) = absurd (omega (arith, from w .0))
-  old-session (named x y u v) = (y, omega arith)
+  old-session (named x y u v) = y
 
   turned-since : Turn a b → sinceRight (t .clock) old ≡ true → sinceRight (t .clock) new ≡ true
   unfolding sinceRight turned
   turned-since (granting x y) e = rw y (rw (is ∙ x) at e)
   turned-since (visiting x y) e = rw y (rw (is ∙ x) at e)
 
-  turned-lasts : Turn a b → recAt (old .session) (t .slots) .expiry ≤ t .clock + 28800 → t .clock < recAt (old .session) (t .slots) .expiry → serialRight (t .next) (old .serial) ≡ true
+  turned-lasts : Turn a b → recAt (old .session) (t .slots) .expiry ≤ t .clock + 28800 → serialRight (t .next) (old .serial) ≡ true
       → if (eqb (new .kind) aFree) (eqb (new .serial) 0 && eqb (new .expiry) 0) (serialRight (t .next) (new .serial) && expiryRight (t .clock) new) ≡ true
   unfolding turned expiryRight
-  turned-lasts (granting x y) m l q = rw (y, q, lt-ltb (t .clock) (recAt (old .session) (t .slots) .expiry) l, le-leb (recAt (old .session) (t .slots) .expiry) (t .clock + 28800) m)
-  turned-lasts (visiting x y) m l q = rw (y, q, lt-ltb (t .clock) (recAt (old .session) (t .slots) .expiry) l, le-leb (recAt (old .session) (t .slots) .expiry) (t .clock + 28800) m)
+  turned-lasts (granting x y) m q = rw (y, q, le-leb (recAt (old .session) (t .slots) .expiry) (t .clock + 28800) m)
+  turned-lasts (visiting x y) m q = rw (y, q, le-leb (recAt (old .session) (t .slots) .expiry) (t .clock + 28800) m)
 
   turned-own : ownRight (t .clock) (t .next) new ≡ true
   unfolding ownRight
@@ -196,9 +194,9 @@ module _ (t : Table) (s : Sound t) (k : ℕ) (p : 1 ≤ k) {a b : ℕ} (w : Turn
       let o = both (fieldsRight old) (sinceRight (t .clock) old) (both (fieldsRight old && sinceRight (t .clock) old) (if (eqb (old .kind) aFree) (eqb (old .serial) 0 && eqb (old .expiry) 0) (serialRight (t .next) (old .serial) && expiryRight (t .clock) old)) (own-of t s k) .0) in
       let v = old-session (view t s k) in
       let x = life t s k (eqb (old .kind) aFree) refl (λ e. omega (arith, from w .0)) in
-      let y = life t s (old .session) (eqb (recAt (old .session) (t .slots) .kind) aFree) refl (λ e. omega (arith, v .0)) in
-      let m : recAt (old .session) (t .slots) .expiry ≤ t .clock + 28800 = rw (v .0) at (y .1) in
-      rw (turned-fields w old (t .slots) is (o .0), turned-since w (o .1), turned-lasts w m (v .1) (x .0))
+      let y = life t s (old .session) (eqb (recAt (old .session) (t .slots) .kind) aFree) refl (λ e. omega (arith, v)) in
+      let m : recAt (old .session) (t .slots) .expiry ≤ t .clock + 28800 = rw v at (y .1) in
+      rw (turned-fields w old (t .slots) is (o .0), turned-since w (o .1), turned-lasts w m (x .0))
 
   turned-links : Turn a b → (recAt (old .session) (t .slots) .kind ≡ 2) → parentRight (t .slots) old ≡ true → (sessionRight (t .slots) new ≡ true) × (parentRight (t .slots) new ≡ true)
   unfolding sessionRight parentRight turned grantRight
@@ -216,7 +214,7 @@ module _ (t : Table) (s : Sound t) (k : ℕ) (p : 1 ≤ k) {a b : ℕ} (w : Turn
   turned-sound =
       let n = new-facts in
       let f = from w in
-      let g = turned-links w (old-session (view t s k) .0) (recs3 (t .clock) (t .next) (t .slots) old (right-slot (t .clock) (t .next) (t .slots) (s .rules .records) k) .2) in
+      let g = turned-links w (old-session (view t s k)) (recs3 (t .clock) (t .next) (t .slots) old (right-slot (t .clock) (t .next) (t .slots) (s .rules .records) k) .2) in
       changed-sound t s k p new
       (record {
         leaf = leaf-unnamed (t .clock) (t .next) (t .slots) (s .rules .records) k p (λ e. omega (arith, f .0)) (f .1);
@@ -264,7 +262,7 @@ module _ (t : Table) (s : Sound t) (k : ℕ) (z : Ticket t k) where
   left-sound = go (eqb (shown .kind) aService) refl
     where
       go : (d : Bool) → eqb (shown .kind) aService ≡ d → Sound (leftBy k shown (remove k t))
-      go true e = let h = eqb-true (shown .kind) 3 e in rw (left-visit h) (turned-sound t s k (z .some) (visiting refl refl) h (z .lasts))
+      go true e = let h = eqb-true (shown .kind) 3 e in rw (left-visit h) (turned-sound t s k (z .some) (visiting refl refl) h)
       go false e = rw (left-nothing (eqb-false (shown .kind) 3 e)) (spent-sound t s k z)
 
   pub left-base : Base (leftBy k shown (remove k t)) (proxyParent shown) (shown .session)
@@ -279,7 +277,6 @@ module _ (t : Table) (s : Sound t) (k : ℕ) (z : Ticket t k) where
           record {
             some = b .some;
             is = ap (λ (u : Rec). u .kind) q ∙ b .is;
-            lasts = omega (arith, ap (λ (u : Rec). u .expiry) q, b .lasts);
             above = none-above (rw (ne-eqb (shown .kind) 4 (λ x. omega arith)));
           }
       go false e = ticket-base t s k z

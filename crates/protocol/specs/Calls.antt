@@ -9,7 +9,7 @@ use Rattle.protocol.specs.Table.{encodeTable, decodeTable, tableShape, t
 use Rattle.protocol.specs.Register.{decodeRegister, registerLawful}
 use Rattle.protocol.specs.Request.{Read, Malformed, Given, Posted, posted, requestOf}
 use Rattle.protocol.specs.Answers.{Reply, replyText, replyAnswer, statusOf, serialOf}
-use Rattle.protocol.specs.Steps.{Brought, Step, tick, requestStep, finish}
+use Rattle.protocol.specs.Steps.{Brought, Step, tick, housekept, requestStep, finish}
 use Rattle.protocol.specs.declared.Method.{Method}
 use Rattle.protocol.specs.declared.Answer.the-variants as answer
 use Rattle.protocol.specs.declared.Outcome.{Outcome}
@@ -146,6 +146,21 @@ formatOf table time =
     if (eqb (formatRefusal (length table) time) 0)
     (numbered 0 (encodeTable (formatted (length table / 512 - 1) time)))
     (numbered (formatRefusal (length table) time) table)
+
+-- housekeeping: refusals 1, 2, 6
+
+unfoldable pub housekeepRefusal : List ℕ → ℕ → ℕ
+housekeepRefusal table time =
+    unless (tableShape (length table)) 1
+    (unless (tableLawful table) 2
+    (unless (leb time lastTime) 6
+    0))
+
+unfoldable pub housekeepOf : List ℕ → ℕ → Numbered
+housekeepOf table time =
+    if (eqb (housekeepRefusal table time) 0)
+    (numbered 0 (encodeTable (housekept time (decodeTable table))))
+    (numbered (housekeepRefusal table time) table)
 
 -- check: refusals 1, 2
 

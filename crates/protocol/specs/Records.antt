@@ -147,9 +147,9 @@ fieldsRight r =
 unfoldable pub serialRight : ℕ → ℕ → Bool
 serialRight next serial = leb 1 serial && (if (eqb next 0) true (ltb serial next))
 
--- T < expiry, at most T plus the kind's lifetime
+-- an expiry is at most T plus the kind's lifetime
 unfoldable pub expiryRight : ℕ → Rec → Bool
-expiryRight clock r = live clock r && leb (r .expiry) (clock + lifetime (r .kind))
+expiryRight clock r = leb (r .expiry) (clock + lifetime (r .kind))
 
 -- a session was made at T at the latest; other kinds have no sign-on time
 unfoldable pub sinceRight : ℕ → Rec → Bool

@@ -40,13 +40,19 @@ step t reply = record { table = t; reply = reply; cookie = []; cleared = false }
 
 -- The table
 
--- a record whose expiry is at most T is cleared
+-- every answered call first sets T to the larger of T and the time; what is dead by then stays in its slot
+unfoldable pub tick : ℕ → Table → Table
+tick time t = tableOf (max (t .clock) time) (t .next) (t .slots)
+
+-- housekeeping frees each record whose expiry is at most T
 abbrev pub clearRec : ℕ → Rec → Rec
 clearRec clock r = if (live clock r) r freeRec
 
--- every answered call first sets T to the larger of T and the time, then clears
-unfoldable pub tick : ℕ → Table → Table
-tick time t = tableOf (max (t .clock) time) (t .next) (map (clearRec (max (t .clock) time)) (t .slots))
+unfoldable pub clear : Table → Table
+clear t = tableOf (t .clock) (t .next) (map (clearRec (t .clock)) (t .slots))
+
+abbrev pub housekept : ℕ → Table → Table
+housekept time t = clear (tick time t)
 
 -- a record is taken out of its slot, or put into one
 abbrev pub put : ℕ → Rec → Table → Table

@@ -9,8 +9,8 @@ use Rattle.protocol.specs.Bytes.{if, ascii, part, hex, spliced}
 use Rattle.protocol.specs.Calendar.{dateText}
 use Rattle.protocol.specs.Tickets.{aVisit}
 use Rattle.protocol.specs.Records.{Rec, freeRec, nameOf}
-use Rattle.protocol.specs.Table.{Table, tableOf, decodeTable, tableShape, tableLawful, lastTime}
-use Rattle.protocol.specs.Steps.{sessionOf}
+use Rattle.protocol.specs.Table.{Table, decodeTable, tableShape, tableLawful, lastTime}
+use Rattle.protocol.specs.Steps.{tick, sessionOf}
 use Rattle.protocol.specs.Calls.{unless}
 use Rattle.protocol.specs.declared.Visit.{Visit}
 
@@ -24,7 +24,7 @@ visitsIn s (r ∷ rs) = if (isVisit s r) (r ∷ visitsIn s rs) (visitsIn s rs)
 
 -- those of the session that a cookie names, live at the larger of T and the time; without a session there are none
 abbrev pub sessionAt : List ℕ → ℕ → Table → ℕ
-sessionAt cookie time t = sessionOf cookie (tableOf (max (t .clock) time) (t .next) (t .slots))
+sessionAt cookie time t = sessionOf cookie (tick time t)
 
 unfoldable pub visitsOf : List ℕ → ℕ → Table → List Rec
 visitsOf cookie time t = if (eqb (sessionAt cookie time t) 0) [] (visitsIn (sessionAt cookie time t) (t .slots))

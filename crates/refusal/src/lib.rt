@@ -2,7 +2,7 @@
 ghost use mathlib.Core.Path.{_≡_};
 ghost use lib.Dec.{leb};
 ghost use Rattle.protocol.specs.Table.{lastTime};
-ghost use Rattle.protocol.specs.Calls.{unless, sizesRight, requestFits, answerRefusal, finishRefusal, formatRefusal, checkOf};
+ghost use Rattle.protocol.specs.Calls.{unless, sizesRight, requestFits, answerRefusal, finishRefusal, formatRefusal, housekeepRefusal, checkOf};
 ghost use Rattle.protocol.specs.Visits.{visitUnless};
 
 // The latest time, 2^40 seconds.
@@ -112,6 +112,17 @@ pub fn of_visit(table: &[u8], time: u64, random: usize, out: usize) -> u32
         return number;
     }
     after_table(time, (8192 <= out) & (random == 48))
+}
+
+// Housekeeping: 1, 2, 6.
+pub fn of_housekeep(table: &[u8], time: u64) -> u32
+    ensures { λ r. ⌜ r ≡ housekeepRefusal (now (table .entry)) time ⌝ }
+{
+    let number = of_check(table);
+    if number != 0 {
+        return number;
+    }
+    after_table(time, true)
 }
 
 // Format: 1, 6.

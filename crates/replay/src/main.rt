@@ -6,6 +6,7 @@
 //   P  u32 place, bytes                           the host overwrites bytes of the table
 //   F  u32 size, u8 fill, u64 time                a table of that size, each byte fill, is formatted
 //   C                                             check
+//   K  u64 time                                   housekeeping
 //   R  bytes body, u32, u32                       read the form into buffers of these sizes
 //   A  u8 post, u64 time, u8 verdict, u32, u32, bytes target, bytes body, bytes cookie, bytes random
 //                                                 answer, with output and cookie output of these sizes
@@ -106,6 +107,7 @@ fn step_on_table(letter: u8, held: Held, table: &mut [u8]) -> Held {
         b'P' => poke(held, table),
         b'F' => format(held, table),
         b'C' => check(held, table),
+        b'K' => housekeep(held, table),
         b'R' => read_form(held),
         b'N' => finish(held, table),
         b'V' => visit(held, table),
@@ -169,6 +171,22 @@ fn check(held: Held, table: &[u8]) -> Held {
 fn check_call(table: &[u8]) {
     let refusal = signon::check(table);
     say_table(b'C', refusal, table);
+}
+
+fn housekeep(held: Held, table: &mut [u8]) -> Held {
+    let low = read_number();
+    let high = read_number();
+    if high == CUT {
+        return cut();
+    }
+    let n = lent::within(held.table, table);
+    housekeep_call(&mut table[..n], whole(low, high));
+    held
+}
+
+fn housekeep_call(table: &mut [u8], time: u64) {
+    let refusal = signon::housekeep(table, time);
+    say_table(b'K', refusal, table);
 }
 
 fn read_form(held: Held) -> Held {

@@ -8,11 +8,11 @@ use lib.ListN.{length}
 use borrow.Author.Tests.{eqb-true, eqb-false, eq-eqb, ne-eqb}
 use Rattle.protocol.specs.Table.{tableShape, tableLawful}
 use Rattle.protocol.specs.Register.{registerShape, registerLawful}
-use Rattle.protocol.specs.Calls.{Inputs, Result, refusal, answerOf, finishRefusal, finishOf, Numbered, formatRefusal, formatOf, checkOf, FormRead, formRefusal, formOf}
+use Rattle.protocol.specs.Calls.{Inputs, Result, refusal, answerOf, finishRefusal, finishOf, Numbered, formatRefusal, formatOf, housekeepRefusal, housekeepOf, checkOf, FormRead, formRefusal, formOf}
 use Rattle.protocol.specs.Visits.{visitRefusal, VisitRead, visitOf}
 use Rattle.protocol.specs.Panels.{panelRefusal, Made, panelOf, faultOf}
 use Rattle.protocol.specs.declared.Fault.{Fault}
-use Rattle.signon.specs.Promise.{Formats, Checks, Reads, Answers, Finishes, Visits, Makes, Judges}
+use Rattle.signon.specs.Promise.{Formats, Housekeeps, Checks, Reads, Answers, Finishes, Visits, Makes, Judges}
 
 -- refused, or not
 by-number : {C : Type 0} (n : ℕ) → (n ≡ 0 → C) → ((n ≡ 0 → ⊥) → C) → C
@@ -34,6 +34,15 @@ pub format-promised : (table : List ℕ) (time : ℕ) (o : Numbered) → o ≡ f
 unfolding formatOf
 format-promised table time o e =
     record { refused = λ h. e ∙ rw (ne-eqb (formatRefusal (length table) time) 0 h); answered = λ z. e ∙ rw (eq-eqb (formatRefusal (length table) time) 0 z) }
+
+pub housekeep-determined : (table : List ℕ) (time : ℕ) (o o′ : Numbered) → Housekeeps table time o → Housekeeps table time o′ → o ≡ o′
+housekeep-determined table time o o′ p q =
+    by-number (housekeepRefusal table time) (λ z. p .answered z ∙ sym (q .answered z)) (λ h. p .refused h ∙ sym (q .refused h))
+
+pub housekeep-promised : (table : List ℕ) (time : ℕ) (o : Numbered) → o ≡ housekeepOf table time → Housekeeps table time o
+unfolding housekeepOf
+housekeep-promised table time o e =
+    record { refused = λ h. e ∙ rw (ne-eqb (housekeepRefusal table time) 0 h); answered = λ z. e ∙ rw (eq-eqb (housekeepRefusal table time) 0 z) }
 
 pub check-determined : (table : List ℕ) (o o′ : ℕ) → Checks table o → Checks table o′ → o ≡ o′
 check-determined table o o′ p q =

@@ -9,8 +9,8 @@ use lib.Dec.{eqb, leb}
 use lib.ListN.{length}
 use Rattle.protocol.specs.Table.{encodeTable, decodeTable, tableShape, tableLawful, lastTime, formatted}
 use Rattle.protocol.specs.Request.{requestOf}
-use Rattle.protocol.specs.Steps.{tick, requestStep, finish}
-use Rattle.protocol.specs.Calls.{inputs, result, refusedOutcome, answerRefusal, stepOf, answerOf, numbered, formatRefusal, formatOf, finishRefusal, finishOf, broughtBy}
+use Rattle.protocol.specs.Steps.{tick, clear, requestStep, finish}
+use Rattle.protocol.specs.Calls.{inputs, result, refusedOutcome, answerRefusal, stepOf, answerOf, numbered, formatRefusal, formatOf, housekeepRefusal, housekeepOf, finishRefusal, finishOf, broughtBy}
 use Rattle.protocol.specs.Visits.{visitUnless}
 use Rattle.protocol.specs.Held.{Fine, Holds, Lawful, Done, Did, Lent}
 use Rattle.protocol.specs.declared.Method.{Method}
@@ -47,6 +47,31 @@ module _ (t : List ℕ) (n : ℕ) {x : ℕ} (e : x ≡ formatRefusal (length t) 
       let p = passes (tableShape (length t)) 1 _ (omega arith) (sym e ∙ z) in
       let s = shaped (length t) (p .0) in
       record { whole = omega (arith, s .whole); least = s .low; most = s .high }
+
+-- housekeeping
+module _ (t : List ℕ) (n : ℕ) {x : ℕ} (e : x ≡ housekeepRefusal t n) where
+  pub housekeep-refused : (x ≡ 0 → ⊥) → numbered x t ≡ housekeepOf t n
+  unfolding housekeepOf
+  housekeep-refused h = rw (← e, ne-eqb x 0 h)
+
+  pub housekeep-done : {t′ : List ℕ} → x ≡ 0 → Holds t′ (clear (tick n (decodeTable t))) → numbered 0 t′ ≡ housekeepOf t n
+  unfolding housekeepOf
+  housekeep-done {t′} z k = rw (← e, eq-eqb x 0 z, holds-bytes t′ (clear (tick n (decodeTable t))) k)
+
+  module _ (z : x ≡ 0) where
+    tidied : (Lawful t) × (n ≤ lastTime)
+    unfolding housekeepRefusal
+    tidied =
+        let p1 = passes (tableShape (length t)) 1 _ (omega arith) (sym e ∙ z) in
+        let p2 = passes (tableLawful t) 2 _ (omega arith) (p1 .1) in
+        let p6 = passes (leb n lastTime) 6 0 (omega arith) (p2 .1) in
+        (lawful-law t (p1 .0) (p2 .0), leb-true n lastTime (p6 .0))
+
+    pub housekeep-lawful : Lawful t
+    housekeep-lawful = tidied .0
+
+    pub housekeep-time : n ≤ lastTime
+    housekeep-time = tidied .1
 
 -- finish
 module _ (t : List ℕ) (n : ℕ) (o : List ℕ) {x : ℕ} (e : x ≡ finishRefusal t n (length o)) where

@@ -8,16 +8,21 @@ use lib.ListN.{length}
 use Rattle.protocol.specs.Register.{encodeEntry, registerShape, registerLawful}
 use Rattle.protocol.specs.Table.{tableShape, tableLawful, encodeTable, decodeTable, formatted}
 use Rattle.protocol.specs.Request.{posted}
-use Rattle.protocol.specs.Steps.{tick, finish}
+use Rattle.protocol.specs.Steps.{tick, clear, finish}
 use Rattle.protocol.specs.Visits.{visitRefusal, visitSaid, VisitRead, visitGiven, visitRefused}
 use Rattle.protocol.specs.Panels.{entry, panelRefusal, Made, made, faultFrom, fault}
 use Rattle.protocol.specs.declared.Fault.{Fault}
-use Rattle.protocol.specs.Calls.{Inputs, Result, refusal, stepOf, delivered, unchanged, finishRefusal, Numbered, numbered, formatRefusal, FormRead, formRefusal, formRefused, formBy}
+use Rattle.protocol.specs.Calls.{Inputs, Result, refusal, stepOf, delivered, unchanged, finishRefusal, Numbered, numbered, formatRefusal, housekeepRefusal, FormRead, formRefusal, formRefused, formBy}
 
 -- format: its number, or a fresh table
 pub record Formats (table : List ℕ) (time : ℕ) (o : Numbered) : Type 0 where
   pub refused : (formatRefusal (length table) time ≡ 0 → ⊥) → o ≡ numbered (formatRefusal (length table) time) table
   pub answered : formatRefusal (length table) time ≡ 0 → o ≡ numbered 0 (encodeTable (formatted (length table / 512 - 1) time))
+
+-- housekeeping: its number, or the table with the clock moved and the dead freed
+pub record Housekeeps (table : List ℕ) (time : ℕ) (o : Numbered) : Type 0 where
+  pub refused : (housekeepRefusal table time ≡ 0 → ⊥) → o ≡ numbered (housekeepRefusal table time) table
+  pub answered : housekeepRefusal table time ≡ 0 → o ≡ numbered 0 (encodeTable (clear (tick time (decodeTable table))))
 
 -- check: 1 for a wrong length, 2 for a broken rule, else 0
 pub record Checks (table : List ℕ) (o : ℕ) : Type 0 where

@@ -1,6 +1,6 @@
-// The eight calls: format a table, check a table, read username and password from a form, answer a request, finish a callback, tell a
-// visit, make a register block, check a register. A host calls these and nothing else. Each takes any bytes: it is refused by number, in
-// the order of the list, and then nothing is written; or it does what the protocol says.
+// The nine calls: format a table, check a table, keep house, read username and password from a form, answer a request, finish a callback,
+// tell a visit, make a register block, check a register. A host calls these and nothing else. Each takes any bytes: it is refused by
+// number, in the order of the list, and then nothing is written; or it does what the protocol says.
 use protocol::Answer;
 use protocol::Fault;
 use protocol::Form;
@@ -9,7 +9,7 @@ use protocol::Outcome;
 use protocol::Visit;
 ghost use mathlib.Core.Path.{_≡_};
 ghost use mathlib.Core.List.{[]};
-ghost use Rattle.protocol.specs.Calls.{refusedOutcome, numbered, formatOf, checkOf, formRead, formOf, inputs, result, answerOf, finishOf};
+ghost use Rattle.protocol.specs.Calls.{refusedOutcome, numbered, formatOf, housekeepOf, checkOf, formRead, formOf, inputs, result, answerOf, finishOf};
 ghost use Rattle.protocol.specs.Visits.{visitRead, visitOf};
 ghost use Rattle.protocol.specs.Panels.{made, panelOf, faultOf};
 
@@ -37,6 +37,18 @@ pub fn format(table: &mut [u8], time: u64) -> u32
         return number;
     }
     table_edit::format(table, time);
+    0
+}
+
+// The clock moved, and every record that is dead by then freed: the refusal's number, else 0.
+pub fn housekeep(table: &mut [u8], time: u64) -> u32
+    ensures { λ r. ⌜ numbered r (now (table .exit)) ≡ housekeepOf (now (table .entry)) time ⌝ }
+{
+    let number = refusal::of_housekeep(table, time);
+    if number != 0 {
+        return number;
+    }
+    table_edit::housekeep(table, time);
     0
 }
 
@@ -85,7 +97,7 @@ pub fn answer(
     if number != 0 {
         return refused(number);
     }
-    table_edit::tick(table, time);
+    table_edit::tick(table, time); // what is dead by then stays in its slot
     route::request(
         table,
         register,

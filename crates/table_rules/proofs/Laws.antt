@@ -143,7 +143,7 @@ unfolding serialRight
 serial-right next serial e = rw e
 
 pub life-right : (f : Fields) (clock next : ℕ) {m : ℕ} {s r : Bool} → m ≡ lifetime (f .kind) → s ≡ serialRight next (f .serial)
-    → r ≡ if (eqb (f .kind) 0) (eqb (f .serial) 0 && eqb (f .expiry) 0) (s && (ltb clock (f .expiry) && leb (f .expiry) (clock + m))) → r ≡ lifeRight clock next f
+    → r ≡ if (eqb (f .kind) 0) (eqb (f .serial) 0 && eqb (f .expiry) 0) (s && leb (f .expiry) (clock + m)) → r ≡ lifeRight clock next f
 unfolding lifeRight
 life-right f clock next a b e = e ∙ rw (a, b)
 

@@ -2,7 +2,7 @@
 use mathlib.Core.Bool.{Bool, true, _&&_}
 use mathlib.Core.List.{List}
 use Prim.Native.Nat.{ℕ, _+_, _-_}
-use lib.Dec.{eqb, leb, ltb}
+use lib.Dec.{eqb, leb}
 use lib.ListN.{take}
 use Rattle.protocol.specs.Bytes.{if, same, within, allWithin, part, num}
 use Rattle.protocol.specs.Tickets.{aFree, aSession, aWaiting, aVisit, lifetime, secretLength, markMost, depthLeast, depthMost, textLeast, textMost}
@@ -23,7 +23,7 @@ unfoldable pub lifeRight : ℕ → ℕ → Fields → Bool
 lifeRight clock next f =
     if (eqb (f .kind) aFree)
     (eqb (f .serial) 0 && eqb (f .expiry) 0)
-    (serialRight next (f .serial) && (ltb clock (f .expiry) && leb (f .expiry) (clock + lifetime (f .kind))))
+    (serialRight next (f .serial) && leb (f .expiry) (clock + lifetime (f .kind)))
 
 -- a session was made at T at the latest; other kinds have no sign-on time
 abbrev pub sinceTest : ℕ → Fields → Bool

@@ -39,7 +39,7 @@ fn life_right(f: Fields, clock: u64, next: u32) -> bool
     requires { ⌜ clock ≤ lastTime ⌝ }
     ensures { λ r. ⌜ r ≡ lifeRight clock next f ⌝ }
 {
-    let held = (clock < f.expiry) & (f.expiry <= clock + ticket::lifetime_of(f.kind));
+    let held = f.expiry <= clock + ticket::lifetime_of(f.kind);
     text::pick(
         f.kind == ticket::FREE,
         (f.serial == 0) & (f.expiry == 0),

@@ -12,7 +12,7 @@ use lib.ListN.{length, drop, getD, drop-of-length-le}
 use Rattle.protocol.specs.Bytes.{if}
 use Rattle.protocol.specs.Records.{Rec, freeRec}
 use Rattle.protocol.specs.Table.{decodeTable, recAt, slotWhere, tableShape, tableLawful, lastTime}
-use Rattle.protocol.specs.Steps.{isNamed, slotNamed}
+use Rattle.protocol.specs.Steps.{tick, isNamed, slotNamed}
 use Rattle.protocol.specs.Written.{Wrote}
 use Rattle.protocol.specs.Held.{In}
 use Rattle.protocol.specs.Calls.{unless}
@@ -165,14 +165,14 @@ module _ (b cookie : List ℕ) (n time : ℕ) (random o : List ℕ) {clock : ℕ
     (e : f ≡ foundAt (slotWhere (isNamed clock 2 cookie) (decodeTable b .slots))) where
   pub told-session : {s : ℕ} {r : VisitRead} → f ≡ At s → r ≡ told (visitsIn s (decodeTable b .slots)) n clock random b o
       → r ≡ told (visitsOf cookie time (decodeTable b)) n (max (decodeTable b .clock) time) random b o
-  unfolding visitsOf slotNamed
+  unfolding visitsOf tick slotNamed
   told-session {s} g q =
       let i = found-is (slotWhere (isNamed clock 2 cookie) (decodeTable b .slots)) e g in
       let z : eqb s 0 ≡ false = ne-eqb s 0 (λ y. omega (arith, found-low (slotWhere (isNamed clock 2 cookie) (decodeTable b .slots)) e g)) in
       rw (sym c, sym i, z) q
 
   pub told-nobody : f ≡ Nothing → visitRead (record { refusal = 9; length = 0 }) b o ≡ told (visitsOf cookie time (decodeTable b)) n (max (decodeTable b .clock) time) random b o
-  unfolding told visitsOf slotNamed
+  unfolding told visitsOf tick slotNamed
   told-nobody g = let i = found-none (slotWhere (isNamed clock 2 cookie) (decodeTable b .slots)) e g in rw (sym c, i, le-ltb n 0 (omega arith))
 
 -- The call: refused, or so told

@@ -9,5 +9,5 @@ use Rattle.table_rules.proofs.life_right.Tie as tie
 pub life-right-spec : {M : Type 1} → statement M
 life-right-spec =
     tie.close
-    (tie.spec (search needs) (λ c. omega (arith, lifetime-most (c .before .before .args .f .kind))) (search needs) (search needs)
+    (tie.spec (search needs) (λ c. omega (arith, lifetime-most (c .before .args .f .kind))) (search needs) (search needs)
     (λ c. search life-right))
