@@ -1,12 +1,6 @@
 // The fields of a frame, read from standard input.
 use lent::CUT;
-ghost use Prim.Native.Nat.{_+_, _≤_, _<_};
-
-pub fn wide(x: u8) -> u64
-    ensures { λ r. ⌜ r < 256 ⌝ }
-{
-    x as u64
-}
+ghost use Prim.Native.Nat.{_+_, _≤_};
 
 // One byte, or CUT.
 pub fn read_byte() -> u64 {
@@ -15,7 +9,7 @@ pub fn read_byte() -> u64 {
     if got < 1 {
         return CUT;
     }
-    wide(b[0])
+    text::wide(b[0])
 }
 
 // A number of four bytes, or CUT. Where one is cut, every later one is.

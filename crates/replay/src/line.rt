@@ -4,7 +4,6 @@ use protocol::Outcome;
 use protocol::Visit;
 ghost use Prim.Native.Nat.{_≤_, _<_, _+_};
 ghost use lib.ListN.{length};
-use super::frame::wide;
 
 // The house check's value worked over a buffer of any length.
 fn sum(s: &[u8]) -> u64 {
@@ -12,7 +11,7 @@ fn sum(s: &[u8]) -> u64 {
     let mut b: u64 = 0;
     let mut i = 0;
     while i < s.len() {
-        a = (a + wide(s[i])) % 65535;
+        a = (a + text::wide(s[i])) % 65535;
         b = (b + a) % 65535;
         i += 1;
     }
