@@ -225,9 +225,10 @@ mod tests {
         let (mut forms, ann) = (Forms::default(), source("10.0.0.1"));
         forms.signed_in(ann);
         assert_eq!(take_all(&mut forms, ann), 8);
-        assert_eq!(forms.room(ann, None, &[], 1_100), Err(NoForm { wait: 500, own: true }));
+        assert_eq!(forms.room(ann, None, &[], 1_100), Err(NoForm { wait: 560, own: true }));
         assert_eq!(forms.room(ann, Some("LT-10.0.0.1-3"), &[], 1_100), Ok(()));
-        assert_eq!(forms.room(ann, None, &[], 1_600), Ok(()));
+        assert!(forms.room(ann, None, &[], 1_659).is_err());
+        assert_eq!(forms.room(ann, None, &[], 1_660), Ok(()));
         forms.spent(Some("LT-10.0.0.1-3"));
         assert_eq!(forms.room(ann, None, &[], 1_100), Ok(()));
         assert!(forms.room(ann, None, &[ann], 1_100).is_err());
@@ -244,7 +245,7 @@ mod tests {
             take_all(&mut forms, numbered(number));
         });
         assert_eq!(forms.open.len(), FORMS - KEPT);
-        assert_eq!(forms.room(numbered(100), None, &[], 1_100), Err(NoForm { wait: 500, own: false }));
+        assert_eq!(forms.room(numbered(100), None, &[], 1_100), Err(NoForm { wait: 560, own: false }));
         assert_eq!(forms.room(ann, None, &[], 1_100), Ok(()));
     }
 

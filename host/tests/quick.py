@@ -320,7 +320,7 @@ class Limits(Ranch):
             greedy.cookie = cookie
             answer = greedy.get('login')
             self.assertEqual((answer.status, greedy.get('login', service=self.gate, gateway='1').status), (429, 303))
-            self.assertTrue(0 < int(answer.headers['Retry-After']) <= 600)
+            self.assertTrue(0 < int(answer.headers['Retry-After']) <= 660)
         greedy.cookie = None
         self.assertEqual(Browser(self.world).get('login').status, 200)
         # A form that the core does not spend stays open: malformed, or with the field's name encoded.
@@ -359,7 +359,7 @@ class Limits(Ranch):
         new.get('logout')
         self.assertEqual(sum(taken(range(5, 45))) + 18, STRANGERS_FORMS)
         answer = Browser(world, '127.0.1.250').get('login')
-        self.assertEqual((answer.status, 0 < int(answer.headers['Retry-After']) <= 600), (503, True))
+        self.assertEqual((answer.status, 0 < int(answer.headers['Retry-After']) <= 660), (503, True))
         world.wait_log('the last forms are kept')
         for browser in desk, new:
             wrong = browser.sign_in('ann', password='wrong')
