@@ -6,7 +6,8 @@ use Rattle.login_post.proofs.post.Tie as tie
 
 enter-given-requires : tie.Need-enter-given-requires
 enter-given-requires c κs =
-    let spent = c .before .before .before .before .before .before .before in
+    let lent = c .before .before .before in
+    let spent = lent .before .before .before .before in
     let read = spent .before .before .before .before .before in
     let asked = read .before .before .before .before in
     let start = asked .before .before .before .before in
