@@ -7,8 +7,8 @@ use native.Mathlib.Omega.{arith}
 use lib.Dec.{eqb, ltb, leb}
 use lib.ListN.{length, drop, getD, set, drop-of-length-le, List·getD-eq-default}
 use lib.Seq.{drop-drop, getD-drop}
-use borrow.Author.Tests.{le-leb, lt-leb, eq-eqb, ne-eqb, ltb-true, ltb-false, leb-true}
-use Rattle.protocol.specs.Bytes.{if, within, allWithin}
+use borrow.Author.Tests.{le-leb, lt-leb, eq-eqb, ne-eqb, eqb-true, eqb-false, ltb-true, ltb-false, leb-true}
+use Rattle.protocol.specs.Bytes.{if, same, within, allWithin}
 use Rattle.protocol.specs.Request.{hexValue, hexLeads, unitOf, skipOf, decodedFrom, decoded}
 use Rattle.protocol.specs.Written.{Wrote}
 use Rattle.protocol.proofs.Laws.{both, drop-step}
@@ -211,6 +211,42 @@ module _ (inBody : Bool) (most : ℕ) (raw : List ℕ) (i n : ℕ) (state : Next
 
     pub name-count : length (decoded inBody raw) ≡ n + 1 + length (decoded inBody (drop next raw))
     name-count = omega (arith, ap length (u .step))
+
+-- `is_text`: whether what is left of both is the same
+module _ (inBody : Bool) (raw text : List ℕ) (i at : ℕ) (left : same (decoded inBody (drop i raw)) (drop at text) ≡ same (decoded inBody raw) text) where
+  module _ (v next : ℕ) (u : UnitAt inBody raw i v next) where
+    begun : same (v ∷ decoded inBody (drop next raw)) (drop at text) ≡ same (decoded inBody raw) text
+    begun = ap (λ (l : List ℕ). same l (drop at text)) (sym (u .step)) ∙ left
+
+    pub text-short : length text ≤ at → false ≡ same (decoded inBody raw) text
+    unfolding same
+    text-short h = ap (same (v ∷ decoded inBody (drop next raw))) (sym (drop-of-length-le text h)) ∙ begun
+
+    module _ (b : ℕ) (w : b ≡ getD text at 0) (h : at < length text) where
+      compared : same (decoded inBody raw) text ≡ eqb v b && same (decoded inBody (drop next raw)) (drop (at + 1) text)
+      unfolding same
+      compared = rw w (sym begun ∙ ap (same (v ∷ decoded inBody (drop next raw))) (drop-step text at h))
+
+      pub text-differs : (v ≡ b → ⊥) → false ≡ same (decoded inBody raw) text
+      text-differs x = sym (compared ∙ rw (ne-eqb v b x))
+
+      pub text-turn : v ≡ b → same (decoded inBody (drop next raw)) (drop (at + 1) text) ≡ same (decoded inBody raw) text
+      text-turn x = sym (compared ∙ rw (eq-eqb v b x))
+
+  pub text-done : length raw ≤ i → at ≤ length text → eqb at (length text) ≡ same (decoded inBody raw) text
+  unfolding same
+  text-done h k = go (eqb at (length text)) refl
+    where
+      nothing : same [] (drop at text) ≡ same (decoded inBody raw) text
+      nothing = ap (λ (l : List ℕ). same l (drop at text)) (sym (decoded-end inBody raw i h)) ∙ left
+
+      go : (t : Bool) → eqb at (length text) ≡ t → t ≡ same (decoded inBody raw) text
+      go true e =
+          let end : length text ≤ at = omega (arith, eqb-true at (length text) e) in
+          ap (same []) (sym (drop-of-length-le text end)) ∙ nothing
+      go false e =
+          let on : at < length text = omega (arith, k, eqb-false at (length text) e) in
+          ap (same []) (sym (drop-step text at on)) ∙ nothing
 
 -- `decode_value`: what is left to write is what is left to decode
 module _ (inBody : Bool) (raw old new : List ℕ) (to i v next : ℕ) (l : Left old 0 (decoded inBody raw) new to (decoded inBody (drop i raw)))

@@ -1,11 +1,11 @@
 // A raw value decoded: `%` and two hex digits are one byte, and in a body `+` is a space. It is judged first, with nothing
-// written; then it is written at the front of a lent buffer.
+// written; then it is compared with a text where it stands, or written at the front of a lent buffer.
 use utf8::Next;
 ghost use mathlib.Core.Path.{_≡_};
 ghost use mathlib.Core.Bool.{true};
 ghost use Prim.Native.Nat.{_<_};
 ghost use lib.ListN.{length, getD};
-ghost use Rattle.protocol.specs.Bytes.{allWithin};
+ghost use Rattle.protocol.specs.Bytes.{same, allWithin};
 ghost use Rattle.protocol.specs.Request.{decoded};
 ghost use Rattle.protocol.specs.Written.{Room, Wrote};
 ghost use Rattle.decode.specs.Judging.{Hex, UnitAt, judged, judgedName};
@@ -129,6 +129,27 @@ pub fn judge_name(raw: &[u8], in_body: bool, most: usize) -> Judged
         return Judged::Good(n);
     }
     Judged::Bad
+}
+
+// Whether a value, decoded, is this text. Nothing is written.
+pub fn is_text(raw: &[u8], in_body: bool, text: &[u8]) -> bool
+    ensures { λ r. ⌜ r ≡ same (decoded in_body (now (raw .entry))) (now (text .entry)) ⌝ }
+{
+    let mut i = 0;
+    let mut at = 0;
+    while i < raw.len() {
+        let u = unit_at(raw, i, in_body);
+        if text.len() <= at {
+            return false;
+        }
+        let b = text::wide(text[at]) as usize;
+        if u.value != b {
+            return false;
+        }
+        i = u.next;
+        at += 1;
+    }
+    at == text.len()
 }
 
 // Writes a good value, and answers its length.

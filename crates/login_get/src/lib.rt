@@ -6,10 +6,9 @@ use request::Value;
 use table_find::Found;
 ghost use mathlib.Core.Path.{_≡_};
 ghost use mathlib.Core.Bool.{false};
-ghost use mathlib.Core.List.{[]};
 ghost use Rattle.protocol.specs.Table.{decodeTable};
 ghost use Rattle.protocol.specs.Request.{Given, asking, asked};
-ghost use Rattle.protocol.specs.Steps.{wayOf, signedOn, loginGet};
+ghost use Rattle.protocol.specs.Steps.{wayOf, signedOn, taken, loginGet};
 ghost use Rattle.protocol.specs.Held.{Fine, In, Lent, Done};
 ghost use Rattle.protocol.specs.Calls.{broughtBy};
 ghost use Rattle.request.specs.Value.{valueAt, Readable};
@@ -17,17 +16,16 @@ ghost use Rattle.issue.specs.Offers.{Offer};
 
 fn way_of(
     table: &[u8],
-    register: &[u8],
+    unknown: bool,
     service: &[u8],
     renew: bool,
     gateway: bool,
     cookie: &[u8],
 ) -> Way
     requires { ⌜ Fine (now table) ⌝ }
-    ensures { λ r. ⌜ r ≡ wayOf (asking (now (service .entry)) renew gateway)
-        (broughtBy (now (register .entry)) (now (cookie .entry)) [] false) (decodeTable (now (table .entry))) ⌝ }
+    ensures { λ r. ⌜ r ≡ wayOf unknown (asking (now (service .entry)) renew gateway) (now (cookie .entry)) (decodeTable (now (table .entry))) ⌝ }
 {
-    if register::unknown_service(register, service) {
+    if unknown {
         return Way::Unknown;
     }
     if renew {
@@ -60,10 +58,10 @@ fn signed_on(table: &mut [u8], s: usize, service: &[u8], random: &[u8], out: &mu
     reply::say_page(out, 503)
 }
 
-// Its service is decoded.
+// By the way that is decided. Where the service is unknown it is not looked at.
 fn take_way(
     table: &mut [u8],
-    register: &[u8],
+    unknown: bool,
     service: &[u8],
     renew: bool,
     gateway: bool,
@@ -72,11 +70,12 @@ fn take_way(
     out: &mut [u8],
 ) -> Outcome
     requires { ⌜ Offer (now table) (now service) (now random) (now out) ⌝ }
-    ensures { λ r. ⌜ Done (loginGet (Given (asking (now (service .entry)) renew gateway))
-        (broughtBy (now (register .entry)) (now (cookie .entry)) (now (random .entry)) false) (decodeTable (now (table .entry))))
+    ensures { λ r. ⌜ Done (taken
+        (wayOf unknown (asking (now (service .entry)) renew gateway) (now (cookie .entry)) (decodeTable (now (table .entry))))
+        (now (service .entry)) (now (random .entry)) (decodeTable (now (table .entry))))
         r (now (table .exit)) (now (out .entry)) (now (out .exit)) ⌝ }
 {
-    match way_of(table, register, service, renew, gateway, cookie) {
+    match way_of(table, unknown, service, renew, gateway, cookie) {
         Way::Unknown => reply::say_page(out, 403),
         Way::SignedOn(s) => signed_on(table, s, service, random, out),
         Way::Away => reply::say_gateway(out, service),
@@ -84,7 +83,7 @@ fn take_way(
     }
 }
 
-// A request that is not malformed: its service is decoded.
+// A request that is not malformed: its service is compared where it lies.
 fn get_given(
     table: &mut [u8],
     register: &[u8],
@@ -101,12 +100,11 @@ fn get_given(
         (broughtBy (now (register .entry)) (now (cookie .entry)) (now (random .entry)) false) (decodeTable (now (table .entry))))
         r (now (table .exit)) (now (out .entry)) (now (out .exit)) ⌝ }
 {
-    let mut for_service = [0u8; 200];
-    let n = request::read(q, service, false, &mut for_service);
+    let known = known::service_of(register, q, service, false);
     take_way(
         table,
-        register,
-        &for_service[..n],
+        known::is_unknown(service, known),
+        known,
         renew,
         gateway,
         cookie,

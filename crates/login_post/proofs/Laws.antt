@@ -1,16 +1,17 @@
 -- Login, POST: the login ticket spent, the credentials judged, and what was done is the step. Assumes nothing.
-use mathlib.Core.Path.{_≡_, sym, ap, _∙_}
-use mathlib.Core.Bool.{Bool, true, false, _||_, not}
+use mathlib.Core.Path.{_≡_, refl, sym, ap, _∙_}
+use mathlib.Core.Bool.{Bool, true, false, _&&_, _||_, not}
 use mathlib.Core.List.{List, []}
 use Prim.Native.Nat.{ℕ, _≤_}
 use native.Mathlib.Omega.{arith}
-use lib.Dec.{eqb}
+use lib.Dec.{eqb, ltb}
 use lib.ListN.{length, take}
-use Rattle.protocol.specs.Bytes.{same, among}
-use Rattle.protocol.specs.Table.{decodeTable}
+use Rattle.protocol.specs.Bytes.{if, same, among}
+use Rattle.protocol.specs.Table.{Table, decodeTable}
 use Rattle.protocol.specs.Request.{valueMost, Malformed, Given, posted}
 use Rattle.protocol.specs.Answers.{ErrorPage}
-use Rattle.protocol.specs.Steps.{Brought, Step, remove, slotNamed, formStep, unknownService, accepted, admissionOf, entered, credentials, loginPost}
+use Rattle.protocol.specs.Register.{decodeRegister}
+use Rattle.protocol.specs.Steps.{Step, remove, slotNamed, formStep, unknownService, linkTo, accepted, admissionOf, entered, credentials, loginPost}
 use Rattle.protocol.specs.Written.{Wrote}
 use Rattle.protocol.specs.Held.{Fine, Holds, Lent, Said, Done, Did}
 use Rattle.protocol.specs.Calls.{broughtBy}
@@ -30,6 +31,7 @@ use Rattle.request.specs.Spelled.{spelledPosted, PostedFits, PostedIn}
 use Rattle.request.specs.declared.Value.{Value}
 use Rattle.request.specs.declared.LoginBody.{LoginBody}
 use Rattle.request.specs.declared.LoginBody.the-variants as body-of
+use Rattle.known.proofs.Laws.{known-short, unknown-as, known-is}
 use Rattle.session.specs.Signing.{Signing}
 use Rattle.login_post.specs.Given.{Spent, Supplied, judged}
 
@@ -46,63 +48,74 @@ pub spent-given : (body d e b b′ : List ℕ) (l : Value) (n k : ℕ) → Wrote
 spent-given body d e b b′ l n k w t = rw (read-back d e (valueAt true body l) n w) at t
 
 -- `admission_of`
-module _ (register service : List ℕ) (k : ℕ) (absent verdict : Bool) {x : Bool} (e : x ≡ unknownService service (broughtBy register [] [] verdict .register)) where
-  pub admission-unknown : x ≡ true → Unknown ≡ admissionOf k service absent (broughtBy register [] [] verdict)
+module _ (k : ℕ) (absent verdict unknown : Bool) where
+  pub admission-unknown : unknown ≡ true → Unknown ≡ admissionOf unknown k absent verdict
   unfolding admissionOf
-  admission-unknown z = rw (← e, z)
+  admission-unknown z = rw z
 
-  pub admission-again : x ≡ false → eqb k 0 || absent || not verdict ≡ true → Again ≡ admissionOf k service absent (broughtBy register [] [] verdict)
+  pub admission-again : unknown ≡ false → eqb k 0 || absent || not verdict ≡ true → Again ≡ admissionOf unknown k absent verdict
   unfolding admissionOf
-  admission-again z h = rw (← e, z, h)
+  admission-again z h = rw (z, h)
 
-  pub admission-accepted : x ≡ false → eqb k 0 || absent || not verdict ≡ false → Accepted ≡ admissionOf k service absent (broughtBy register [] [] verdict)
+  pub admission-accepted : unknown ≡ false → eqb k 0 || absent || not verdict ≡ false → Accepted ≡ admissionOf unknown k absent verdict
   unfolding admissionOf
-  admission-accepted z h = rw (← e, z, h)
+  admission-accepted z h = rw (z, h)
 
--- `enter`: what is done for each
-module _ (b register service user cookie random : List ℕ) (k : ℕ) (absent verdict : Bool) {w : Admission} (e : w ≡ admissionOf k service absent (broughtBy register [] [] verdict)) where
-  abbrev brought : Brought
-  brought = broughtBy register cookie random verdict
-
+-- `enter`: what is done for each admission
+module _ (b service user cookie random : List ℕ) (k : ℕ) (absent verdict unknown : Bool) {w : Admission} (e : w ≡ admissionOf unknown k absent verdict) where
   abbrev done : Admission → Step
-  done a = entered a user service brought (decodeTable b)
+  done a = entered a user service (broughtBy [] cookie random verdict) (decodeTable b)
 
-  enters : {v : Admission} → w ≡ v → done v ≡ done (admissionOf k service absent brought)
-  unfolding admissionOf
+  enters : {v : Admission} → w ≡ v → done v ≡ done (admissionOf unknown k absent verdict)
   enters z = ap done (sym z ∙ e)
 
   module _ {o o′ c : List ℕ} {r : Outcome} where
-    pub enter-unknown : w ≡ Unknown → Fine b → Said (ErrorPage 403) r o o′ → Did (done (admissionOf k service absent brought)) r b o o′ c c
+    pub enter-unknown : w ≡ Unknown → Fine b → Said (ErrorPage 403) r o o′ → Did (done (admissionOf unknown k absent verdict)) r b o o′ c c
     unfolding entered
     enter-unknown z f s = did-as (enters z) (done-did c (only-said f s))
 
-    pub enter-again : {b′ : List ℕ} → w ≡ Again → Done (formStep 401 service random (decodeTable b)) r b′ o o′ → Did (done (admissionOf k service absent brought)) r b′ o o′ c c
+    pub enter-again : {b′ : List ℕ} → w ≡ Again → Done (formStep 401 service random (decodeTable b)) r b′ o o′ → Did (done (admissionOf unknown k absent verdict)) r b′ o o′ c c
     unfolding entered
     enter-again z d = did-as (enters z) (done-did c d)
 
     pub enter-accepted : {b′ c′ : List ℕ} → w ≡ Accepted → Did (accepted (slotNamed 2 cookie (decodeTable b)) user service random (decodeTable b)) r b′ o o′ c c′
-        → Did (done (admissionOf k service absent brought)) r b′ o o′ c c′
+        → Did (done (admissionOf unknown k absent verdict)) r b′ o o′ c c′
     unfolding entered
     enter-accepted z d = did-as (enters z) d
 
--- `enter_given`: service and username as they were decoded
-module _ (body x x′ y y′ : List ℕ) (s u : Value) (m n : ℕ) (i : Wrote x 0 x′ m (valueAt true body s)) (j : Wrote y 0 y′ n (valueAt true body u)) where
-  pub enter-ready : (b random o c : List ℕ) → Supplied b random o c → Readable true 200 body s → Readable true 64 body u → Signing b (take n y′) (take m x′) random o c
-  enter-ready b random o c l h k =
+-- `enter_given`: the service as the register has it
+module _ (body register known : List ℕ) (s u : Value) (e : known ≡ linkTo (valueAt true body s) (decodeRegister register)) (h : Readable true 200 body s) where
+  abbrev service : List ℕ
+  service = valueAt true body s
+
+  pub enter-ready : (b random o c : List ℕ) → Supplied b random o c → Readable true 64 body u → Signing b body u known random o c
+  enter-ready b random o c l k =
       record {
         fine = l .fine;
-        name = rw (read-back y y′ (valueAt true body u) n j) (omega (arith, k .long, k .fits));
-        short = rw (read-back x x′ (valueAt true body s) m i) (omega (arith, h .long, h .fits));
+        name = k;
+        short = known-short true 200 body known s (decodeRegister register) e h;
         drawn = l .drawn;
         out = l .out;
         cookie = l .cookie;
       }
 
-  pub entered-did : (b register cookie random : List ℕ) (k : ℕ) (absent verdict : Bool) {b′ o o′ c c′ : List ℕ} {r : Outcome}
-      → Did (judged k (take m x′) (take n y′) absent (broughtBy register cookie random verdict) (decodeTable b)) r b′ o o′ c c′
+  -- who is turned away for an unknown service is so whatever it is; else the service is the one that was given
+  entered-by : (user cookie random : List ℕ) (k : ℕ) (absent verdict unknown : Bool) (t : Table) → unknown ≡ unknownService service (decodeRegister register)
+      → entered (admissionOf unknown k absent verdict) user known (broughtBy [] cookie random verdict) t ≡ judged k service user absent (broughtBy register cookie random verdict) t
+  unfolding admissionOf entered
+  entered-by user cookie random k absent verdict true t q = rw (← q)
+  entered-by user cookie random k absent verdict false t q =
+      rw (← q, known-is service known (decodeRegister register) e (sym q)) (unread (eqb k 0 || absent || not verdict))
+    where
+      unread : (again : Bool) → entered (if again Again Accepted) user service (broughtBy [] cookie random verdict) t ≡ entered (if again Again Accepted) user service (broughtBy register cookie random verdict) t
+      unread true = refl
+      unread false = refl
+
+  pub entered-did : (b cookie random : List ℕ) (k : ℕ) (absent verdict x : Bool) {b′ o o′ c c′ : List ℕ} {r : Outcome} → x ≡ (ltb 0 (s .length) && eqb (length known) 0)
+      → Did (entered (admissionOf x k absent verdict) (valueAt true body u) known (broughtBy [] cookie random verdict) (decodeTable b)) r b′ o o′ c c′
       → Did (judged k (valueAt true body s) (valueAt true body u) absent (broughtBy register cookie random verdict) (decodeTable b)) r b′ o o′ c c′
-  entered-did b register cookie random k absent verdict {b′} {o} {o′} {c} {c′} {r} d =
-      rw (read-back x x′ (valueAt true body s) m i, read-back y y′ (valueAt true body u) n j) at d
+  entered-did b cookie random k absent verdict x q d =
+      did-as (entered-by (valueAt true body u) cookie random k absent verdict x (decodeTable b) (q ∙ unknown-as service known (decodeRegister register) e (s .length) (h .long))) d
 
 -- `post`: by what was read
 module _ (body : List ℕ) (x : LoginBody) (f : PostedIn body x) where

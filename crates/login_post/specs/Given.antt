@@ -6,7 +6,7 @@ use Prim.Native.Nat.{ℕ, _≤_}
 use lib.ListN.{length}
 use Rattle.protocol.specs.Tickets.{aLogin}
 use Rattle.protocol.specs.Table.{Table, decodeTable}
-use Rattle.protocol.specs.Steps.{Brought, Step, remove, slotNamed, admissionOf, entered}
+use Rattle.protocol.specs.Steps.{Brought, Step, remove, slotNamed, unknownService, admissionOf, entered}
 use Rattle.protocol.specs.Held.{Fine, Holds}
 
 -- the live login ticket of a text, in slot k (0: there is none), was removed
@@ -23,4 +23,4 @@ pub record Supplied (b random o c : List ℕ) : Type 0 where
 
 -- what becomes of credentials whose login ticket was in slot k
 abbrev pub judged : ℕ → List ℕ → List ℕ → Bool → Brought → Table → Step
-judged k service user absent g t = entered (admissionOf k service absent g) user service g t
+judged k service user absent g t = entered (admissionOf (unknownService service (g .register)) k absent (g .verdict)) user service g t

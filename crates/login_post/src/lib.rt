@@ -12,7 +12,7 @@ ghost use Prim.Native.Nat.{_≤_};
 ghost use lib.ListN.{length};
 ghost use Rattle.protocol.specs.Table.{decodeTable};
 ghost use Rattle.protocol.specs.Request.{posted};
-ghost use Rattle.protocol.specs.Steps.{admissionOf, loginPost};
+ghost use Rattle.protocol.specs.Steps.{admissionOf, entered, loginPost};
 ghost use Rattle.protocol.specs.Held.{Fine, Lent, Did};
 ghost use Rattle.protocol.specs.Calls.{broughtBy};
 ghost use Rattle.request.specs.Value.{valueAt, Readable};
@@ -43,11 +43,11 @@ fn spend_given(table: &mut [u8], body: &[u8], lt: Value) -> usize
     spend(table, &for_lt[..n])
 }
 
-// k is the slot of the spent login ticket, 0 for none; username or password may be absent.
-fn admission_of(register: &[u8], k: usize, service: &[u8], absent: bool, verdict: bool) -> Admission
-    ensures { λ r. ⌜ r ≡ admissionOf k (now (service .entry)) absent (broughtBy (now (register .entry)) [] [] verdict) ⌝ }
+// The service may be unknown; k is the slot of the spent login ticket, 0 for none; username or password may be absent.
+fn admission_of(unknown: bool, k: usize, absent: bool, verdict: bool) -> Admission
+    ensures { λ r. ⌜ r ≡ admissionOf unknown k absent verdict ⌝ }
 {
-    if register::unknown_service(register, service) {
+    if unknown {
         return Admission::Unknown;
     }
     if (k == 0) | absent | !verdict {
@@ -56,13 +56,14 @@ fn admission_of(register: &[u8], k: usize, service: &[u8], absent: bool, verdict
     Admission::Accepted
 }
 
-// Service and username are decoded, the login ticket is spent.
+// The login ticket is spent. A service that is not unknown is the one that was given.
 fn enter(
     table: &mut [u8],
-    register: &[u8],
+    unknown: bool,
     k: usize,
+    body: &[u8],
     service: &[u8],
-    user: &[u8],
+    username: Value,
     absent: bool,
     cookie: &[u8],
     random: &[u8],
@@ -70,21 +71,30 @@ fn enter(
     out: &mut [u8],
     cookie_out: &mut [u8],
 ) -> Outcome
-    requires { ⌜ Signing (now table) (now user) (now service) (now random) (now out) (now «cookie_out») ⌝ }
-    ensures { λ r. ⌜ Did (judged k (now (service .entry)) (now (user .entry)) absent
-        (broughtBy (now (register .entry)) (now (cookie .entry)) (now (random .entry)) verdict) (decodeTable (now (table .entry))))
+    requires { ⌜ Signing (now table) (now body) username (now service) (now random) (now out) (now «cookie_out») ⌝ }
+    ensures { λ r. ⌜ Did (entered (admissionOf unknown k absent verdict) (valueAt true (now (body .entry)) username) (now (service .entry))
+        (broughtBy [] (now (cookie .entry)) (now (random .entry)) verdict) (decodeTable (now (table .entry))))
         r (now (table .exit)) (now (out .entry)) (now (out .exit)) (now («cookie_out» .entry)) (now («cookie_out» .exit)) ⌝ }
 {
-    match admission_of(register, k, service, absent, verdict) {
+    match admission_of(unknown, k, absent, verdict) {
         Admission::Unknown => reply::say_page(out, 403),
         Admission::Again => issue::form(table, 401, service, random, out),
         Admission::Accepted => {
-            session::accept(table, cookie, user, service, random, out, cookie_out)
+            session::accept(
+                table,
+                cookie,
+                body,
+                username,
+                service,
+                random,
+                out,
+                cookie_out,
+            )
         }
     }
 }
 
-// Service and username are decoded; the login ticket is spent.
+// The service is taken as the register has it.
 fn enter_given(
     table: &mut [u8],
     register: &[u8],
@@ -105,16 +115,14 @@ fn enter_given(
         (broughtBy (now (register .entry)) (now (cookie .entry)) (now (random .entry)) verdict) (decodeTable (now (table .entry))))
         r (now (table .exit)) (now (out .entry)) (now (out .exit)) (now («cookie_out» .entry)) (now («cookie_out» .exit)) ⌝ }
 {
-    let mut for_service = [0u8; 200];
-    let mut for_user = [0u8; 64];
-    let s = request::read(body, service, true, &mut for_service);
-    let u = request::read(body, username, true, &mut for_user);
+    let known = known::service_of(register, body, service, true);
     enter(
         table,
-        register,
+        known::is_unknown(service, known),
         k,
-        &for_service[..s],
-        &for_user[..u],
+        body,
+        known,
+        username,
         absent,
         cookie,
         random,

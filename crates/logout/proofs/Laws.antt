@@ -4,22 +4,19 @@ use mathlib.Core.Bool.{Bool, true, false}
 use mathlib.Core.List.{List, []}
 use Prim.Native.Nat.{ℕ, _≤_}
 use native.Mathlib.Omega.{arith}
-use lib.ListN.{length, take}
 use borrow.Author.Tests.{eq-eqb, ne-eqb}
 use Rattle.protocol.specs.Bytes.{same, among}
 use Rattle.protocol.specs.Tickets.{aSession}
 use Rattle.protocol.specs.Table.{decodeTable}
-use Rattle.protocol.specs.Register.{Entry, registered}
+use Rattle.protocol.specs.Register.{decodeRegister}
 use Rattle.protocol.specs.Request.{Malformed, Given, leaving, valueMost}
 use Rattle.protocol.specs.Answers.{ErrorPage, SignedOut}
 use Rattle.protocol.specs.Steps.{Brought, slotNamed, endSession, withoutSession, linkTo, logout}
 use Rattle.protocol.specs.Calls.{outcomeWith}
-use Rattle.protocol.specs.Written.{Wrote}
 use Rattle.protocol.specs.Held.{Fine, Holds, Said, Done, clearedIf}
 use Rattle.protocol.specs.declared.Outcome.{Outcome}
 use Rattle.protocol.proofs.Held.{holds-self}
 use Rattle.protocol.proofs.Told.{only-said}
-use Rattle.text.proofs.Splice.{read-back}
 use Rattle.table_find.specs.Searches.{foundAt}
 use Rattle.table_find.specs.declared.Found.{Found}
 use Rattle.table_find.specs.declared.Found.the-variants.{At, Nothing}
@@ -29,6 +26,7 @@ use Rattle.request.specs.Spelled.{spelledLeaving, LeavingFits, LeavingIn}
 use Rattle.request.specs.declared.Value.{Value}
 use Rattle.request.specs.declared.LogoutQuery.{LogoutQuery}
 use Rattle.request.specs.declared.LogoutQuery.the-variants as logout-query
+use Rattle.logout.specs.Leaving.{leaving as leaves}
 
 -- the session ended, or none was there
 pub ended : (b b′ cookie : List ℕ) (k : ℕ) {f : Found} → f ≡ foundAt (slotNamed aSession cookie (decodeTable b)) → f ≡ At k → Holds b′ (endSession k (decodeTable b)) → Holds b′ (withoutSession cookie (decodeTable b))
@@ -44,20 +42,12 @@ nobody b cookie e a h =
     let s : slotNamed aSession cookie (decodeTable b) ≡ 0 = found-none (slotNamed aSession cookie (decodeTable b)) e a in
     rw (eq-eqb (slotNamed aSession cookie (decodeTable b)) 0 s) (holds-self b h)
 
--- the link, and none
-pub linked : (url o o′ : List ℕ) (es : List Entry) {r : Outcome} {x : Bool} → x ≡ registered url es → x ≡ true → Said (SignedOut url) r o o′ → Said (SignedOut (linkTo url es)) r o o′
-unfolding linkTo
-linked url o o′ es e t s = let w : registered url es ≡ true = sym e ∙ t in rw w s
-
-pub unlinked : (url o o′ : List ℕ) (es : List Entry) {r : Outcome} {x : Bool} → x ≡ registered url es → x ≡ false → Said (SignedOut []) r o o′ → Said (SignedOut (linkTo url es)) r o o′
-unfolding linkTo
-unlinked url o o′ es e t s = let w : registered url es ≡ false = sym e ∙ t in rw w s
-
 -- the page said over the table that is left, and the cookie cleared
-pub left-done : (b b′ o o′ url cookie : List ℕ) (es : List Entry) {r r′ : Outcome} → Holds b′ (withoutSession cookie (decodeTable b)) → Said (SignedOut (linkTo url es)) r o o′ → r′ ≡ clearedIf true r
-    → Done (logout (Given url) (record { register = es; cookie = cookie; random = []; verdict = false }) (decodeTable b)) r′ b′ o o′
+pub left-done : (b b′ o o′ register q v cookie : List ℕ) (url : Value) {r r′ : Outcome} → Holds b′ (withoutSession cookie (decodeTable b)) → v ≡ linkTo (valueAt false q url) (decodeRegister register)
+    → Said (SignedOut v) r o o′ → r′ ≡ clearedIf true r → Done (logout (Given (valueAt false q url)) (leaves register cookie) (decodeTable b)) r′ b′ o o′
 unfolding logout outcomeWith
-left-done b b′ o o′ url cookie es h s e = record { outcome = e ∙ ap (clearedIf true) (s .outcome); table = h; out = s .out; cookie = refl }
+left-done b b′ o o′ register q v cookie url h k s e =
+    record { outcome = rw (← k) (e ∙ ap (clearedIf true) (s .outcome)); table = h; out = rw (← k) (s .out); cookie = refl }
 
 -- by what was read
 module _ (q : List ℕ) (x : LogoutQuery) (k : LeavingIn q x) where
@@ -76,14 +66,3 @@ module _ (q : List ℕ) (x : LogoutQuery) (k : LeavingIn q x) where
     answered b b′ o o′ g {r} d =
         let m : Given (valueAt false q u) ≡ leaving q = sym (ap (spelledLeaving q) e) ∙ k .spells in
         rw m at d
-
--- the url that was read stands at the front of the buffer
-module _ (q d e : List ℕ) (u : Value) (n : ℕ) (w : Wrote d 0 e n (valueAt false q u)) where
-  url-is : take n e ≡ valueAt false q u
-  url-is = read-back d e (valueAt false q u) n w
-
-  pub url-most : Readable false 200 q u → length (take n e) ≤ 200
-  url-most h = rw url-is (omega (arith, h .long, h .fits))
-
-  pub url-left : (b : List ℕ) (g : Brought) {b′ o o′ : List ℕ} {r : Outcome} → Done (logout (Given (take n e)) g (decodeTable b)) r b′ o o′ → Done (logout (Given (valueAt false q u)) g (decodeTable b)) r b′ o o′
-  url-left b g {b′} {o} {o′} {r} x = rw url-is at x

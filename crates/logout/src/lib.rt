@@ -4,15 +4,11 @@ use protocol::Outcome;
 use request::LogoutQuery;
 use request::Value;
 use table_find::Found;
-ghost use mathlib.Core.Bool.{true, false};
-ghost use Prim.Native.Nat.{_≤_};
-ghost use lib.ListN.{length};
+ghost use mathlib.Core.Bool.{false};
 ghost use Rattle.protocol.specs.Table.{decodeTable};
-ghost use Rattle.protocol.specs.Register.{decodeRegister};
 ghost use Rattle.protocol.specs.Request as read;
-ghost use Rattle.protocol.specs.Answers.{SignedOut};
-ghost use Rattle.protocol.specs.Steps.{withoutSession, linkTo, logout};
-ghost use Rattle.protocol.specs.Held.{Fine, Holds, Said, Done};
+ghost use Rattle.protocol.specs.Steps.{withoutSession, logout};
+ghost use Rattle.protocol.specs.Held.{Fine, Holds, Done};
 ghost use Rattle.request.specs.Value.{valueAt, Readable};
 ghost use Rattle.logout.specs.Leaving.{Given, leaving};
 
@@ -27,27 +23,7 @@ fn end_named(table: &mut [u8], cookie: &[u8])
     }
 }
 
-// The page, with a link back to a registered service.
-fn say_link(register: &[u8], url: &[u8], out: &mut [u8]) -> Outcome
-    requires { ⌜ (length (now url) ≤ 200) × (8192 ≤ length (now out)) ⌝ }
-    ensures { λ r. ⌜ Said (SignedOut (linkTo (now (url .entry)) (decodeRegister (now (register .entry))))) r (now (out .entry)) (now (out .exit)) ⌝ }
-{
-    if register::registered(register, url) {
-        return reply::say_signed_out(out, url);
-    }
-    reply::say_signed_out(out, b"")
-}
-
-fn leave(table: &mut [u8], register: &[u8], url: &[u8], cookie: &[u8], out: &mut [u8]) -> Outcome
-    requires { ⌜ (Given (now table) (now out)) × (length (now url) ≤ 200) ⌝ }
-    ensures { λ r. ⌜ Done (logout (read.Given (now (url .entry))) (leaving (now (register .entry)) (now (cookie .entry)))
-        (decodeTable (now (table .entry)))) r (now (table .exit)) (now (out .entry)) (now (out .exit)) ⌝ }
-{
-    end_named(table, cookie);
-    reply::with_cleared(say_link(register, url, out), true)
-}
-
-// The url is decoded.
+// The page links back to the url where that is a registered service.
 fn leave_for(
     table: &mut [u8],
     register: &[u8],
@@ -61,9 +37,9 @@ fn leave_for(
         (leaving (now (register .entry)) (now (cookie .entry))) (decodeTable (now (table .entry)))) r (now (table .exit))
         (now (out .entry)) (now (out .exit)) ⌝ }
 {
-    let mut buf = [0u8; 200];
-    let n = request::read(q, url, false, &mut buf);
-    leave(table, register, &buf[..n], cookie, out)
+    end_named(table, cookie);
+    let link = known::service_of(register, q, url, false);
+    reply::with_cleared(reply::say_signed_out(out, link), true)
 }
 
 pub fn logout(table: &mut [u8], register: &[u8], q: &[u8], cookie: &[u8], out: &mut [u8]) -> Outcome

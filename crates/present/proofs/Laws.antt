@@ -2,28 +2,32 @@
 use mathlib.Core.Path.{_≡_, refl, sym, _∙_}
 use mathlib.Core.Bool.{Bool, true, false, _&&_, not}
 use mathlib.Core.List.{List, [], _∷_}
-use Prim.Native.Nat.{ℕ, _+_, _<_}
+use Prim.Native.Nat.{ℕ, _+_, _≤_, _<_}
 use native.Mathlib.Omega.{arith}
 use borrow.Author.Tests.{ne-eqb, leb-true, le-leb, ltb-true, lt-ltb}
 use lib.Dec.{eqb, leb, ltb}
-use lib.ListN.{length}
+use lib.ListN.{length, take}
 use Rattle.protocol.specs.Bytes.{if, isEmpty, same}
 use Rattle.protocol.specs.Tickets.{aProxy, aWaiting, deepest}
 use Rattle.protocol.specs.Records.{Rec}
 use Rattle.protocol.specs.Table.{Table, decodeTable, recAt}
 use Rattle.protocol.specs.Register.{callbackOf, decodeRegister}
 use Rattle.protocol.specs.Answers.{InvalidTicket, InvalidService, YesNo, Failure}
-use Rattle.protocol.specs.Steps.{Brought, step, remove, leftBy, ticketSlot, roomFor, newRec, failed, takesProxies, proxyParent, waitingWith, successOf, rulingOf, grants, grantOrTell, acceptTicket, ruled, presented}
-use Rattle.protocol.specs.Held.{Lawful, In, Within, Spendable, Holds, Said, Done, bringing}
+use Rattle.protocol.specs.Steps.{Brought, step, remove, leftBy, ticketSlot, roomFor, newRec, failed, takesProxies, proxyParent, waitingWith, successOf, rulingOf, grants, grantOrTell, isPlain, acceptTicket, ruled, presented}
+use Rattle.protocol.specs.Written.{Wrote}
+use Rattle.protocol.specs.Held.{Lawful, Lent, In, Within, Spendable, Holds, Said, Done, bringing}
 use Rattle.protocol.specs.declared.Outcome.{Outcome}
 use Rattle.protocol.specs.declared.Validator.{Validator}
 use Rattle.protocol.specs.declared.Validator.the-variants as validator
-use Rattle.protocol.proofs.Laws.{both, rules-hold}
+use Rattle.protocol.proofs.Laws.{both, same-eq, rules-hold}
 use Rattle.protocol.proofs.Searches.{ticket-live}
 use Rattle.protocol.proofs.NewSound.{Base, ParentBase, none-above, grant-above}
 use Rattle.protocol.proofs.TurnSound.{left-sound, left-base}
 use Rattle.protocol.proofs.Held.{sound-held, record-in}
 use Rattle.protocol.proofs.Told.{only-said, done-as}
+use Rattle.text.proofs.Splice.{read-back}
+use Rattle.request.specs.Value.{valueAt, Readable}
+use Rattle.request.specs.declared.Value.{Value}
 use Rattle.table_find.specs.declared.Found.{Found}
 use Rattle.table_find.specs.declared.Found.the-variants.{At, Nothing}
 use Rattle.table_find.specs.Searches.{foundAt}
@@ -35,7 +39,7 @@ use Rattle.issue.specs.Offers.{Offer}
 use Rattle.table_edit.proofs.Leaving.{shown-live}
 use Rattle.protocol.specs.declared.Ruling.{Ruling}
 use Rattle.protocol.specs.declared.Ruling.the-variants as ruling
-use Rattle.present.specs.Brings.{Brings}
+use Rattle.present.specs.Presented.{grantsTo}
 
 -- A failure
 
@@ -67,62 +71,66 @@ one-deeper d = go (ltb d 4) refl
         go′ false f = refl
         go′ true f = let x : ltb d 4 ≡ true = lt-ltb d 4 (omega (arith, leb-true (d + 1) 4 f)) in sym e ∙ x
 
-pub grant-tests : (p d : ℕ) (service url callback g b : List ℕ) (s m : Bool) → callback ≡ callbackOf service (decodeRegister g) → d ≡ recAt p (decodeTable b .slots) .depth
-    → s ≡ same url callback → m ≡ roomFor 1 (decodeTable b)
-    → ltb 0 (length url) && s && ltb d 4 && m ≡ grants p service url (bringing g []) (decodeTable b)
-unfolding grants
-grant-tests p d service url callback g b s m e f h k = rw (some-byte url, one-deeper d, h, e, f, k)
+pub grant-tests : (p d n : ℕ) (url callback b : List ℕ) (s m : Bool) → n ≡ length url → d ≡ recAt p (decodeTable b .slots) .depth → s ≡ same url callback → m ≡ roomFor 1 (decodeTable b)
+    → ltb 0 n && s && ltb d 4 && m ≡ grantsTo p callback url (decodeTable b)
+unfolding grantsTo
+grant-tests p d n url callback b s m l f h k = rw (l, some-byte url, one-deeper d, h, f, k)
 
-module _ (b g url random o service : List ℕ) (s p m : ℕ) (h : Brings b g url random o) (z : Bool) (e : z ≡ grants p service url (bringing g []) (decodeTable b)) where
+module _ (b q callback : List ℕ) (u : Value) (p : ℕ) (z : Bool) (e : z ≡ grantsTo p callback (valueAt false q u) (decodeTable b)) where
   module _ (y : z ≡ true) where
-    tests : (leb (recAt p (decodeTable b .slots) .depth + 1) deepest ≡ true) × (roomFor 1 (decodeTable b) ≡ true)
-    unfolding grants
+    record Tests : Type 0 where
+      its-own : valueAt false q u ≡ callback
+      deep : recAt p (decodeTable b .slots) .depth + 1 ≤ 4
+      room : roomFor 1 (decodeTable b) ≡ true
+
+    tests : Tests
+    unfolding grantsTo deepest
     tests =
         let t = decodeTable b in
-        let deep = leb (recAt p (t .slots) .depth + 1) deepest in
-        let x = both (not (isEmpty url) && same url (callbackOf service (decodeRegister g)) && deep) (roomFor 1 t) (sym e ∙ y) in
-        (both (not (isEmpty url) && same url (callbackOf service (decodeRegister g))) deep (x .0) .1, x .1)
+        let url = valueAt false q u in
+        let deep = leb (recAt p (t .slots) .depth + 1) 4 in
+        let x = both (not (isEmpty url) && same url callback && deep) (roomFor 1 t) (sym e ∙ y) in
+        let v = both (not (isEmpty url) && same url callback) deep (x .0) in
+        record { its-own = same-eq url callback (both (not (isEmpty url)) (same url callback) (v .0) .1); deep = leb-true (recAt p (t .slots) .depth + 1) 4 (v .1); room = x .1 }
 
     pub grant-room : roomFor 1 (decodeTable b) ≡ true
-    grant-room = tests .1
+    grant-room = tests .room
 
-    module _ (d : ℕ) (f : d ≡ recAt p (decodeTable b .slots) .depth) where
-      pub shallow : d + 1 < 256
-      unfolding deepest
-      shallow = omega (arith, leb-true (recAt p (decodeTable b .slots) .depth + 1) 4 (tests .0))
+    pub shallow : (d : ℕ) → d ≡ recAt p (decodeTable b .slots) .depth → d + 1 < 256
+    shallow d f = omega (arith, tests .deep)
 
-      pub grant-done : (o′ b′ : List ℕ) (r : Outcome) → Done (waitingWith (newRec aWaiting m p s (d + 1) url random (decodeTable b)) (decodeTable b)) r b′ o o′
-          → Done (grantOrTell s p m service url (bringing g random) (decodeTable b)) r b′ o o′
-      unfolding grantOrTell grants
-      grant-done o′ b′ r x = done-as (rw (sym e ∙ y, f)) x
+    pub offered : (g random o : List ℕ) → Lent b g random o → Readable false 200 q u → Offer b callback random o
+    offered g random o h w = record { fine = h .lawful .fine; short = rw (sym (tests .its-own)) (omega (arith, w .long, w .fits)); drawn = h .drawn; out = h .room }
 
-  pub tell-done : z ≡ false → (o′ : List ℕ) (r : Outcome) → Said (successOf s m [] p (decodeTable b .slots)) r o o′
-      → Done (grantOrTell s p m service url (bringing g random) (decodeTable b)) r b o o′
-  unfolding grantOrTell grants
-  tell-done y o′ r x = done-as (rw (sym e ∙ y)) (only-said (h .lawful .fine) x)
+  module _ (g random service o o′ : List ℕ) (c : callback ≡ callbackOf service (decodeRegister g)) (s m : ℕ) (r : Outcome) where
+    by-service : grants p service (valueAt false q u) (bringing g random) (decodeTable b) ≡ z
+    unfolding grants grantsTo
+    by-service = rw (e, c)
 
-module _ (b g url random o : List ℕ) (h : Brings b g url random o) where
-  pub offered : Offer b url random o
-  offered = record { fine = h .lawful .fine; short = h .short; drawn = h .drawn; out = h .room }
+    pub grant-done : (y : z ≡ true) (d : ℕ) → d ≡ recAt p (decodeTable b .slots) .depth → (b′ : List ℕ) → Done (waitingWith (newRec aWaiting m p s (d + 1) callback random (decodeTable b)) (decodeTable b)) r b′ o o′
+        → Done (grantOrTell s p m service (valueAt false q u) (bringing g random) (decodeTable b)) r b′ o o′
+    unfolding grantOrTell
+    grant-done y d f b′ x = done-as (rw (by-service ∙ y, f, tests y .its-own)) x
 
-  pub told : (s p : ℕ) → In s b → Within p b → Told b s [] p o
-  told s p i w = record { lawful = h .lawful; user = i; above = w; short = omega arith; room = h .room }
+    pub tell-done : z ≡ false → Lent b g random o → Said (successOf s m [] p (decodeTable b .slots)) r o o′
+        → Done (grantOrTell s p m service (valueAt false q u) (bringing g random) (decodeTable b)) r b o o′
+    unfolding grantOrTell
+    tell-done y h x = done-as (rw (by-service ∙ y)) (only-said (h .lawful .fine) x)
+
+pub told : (b g random o : List ℕ) (s p : ℕ) → Lent b g random o → In s b → Within p b → Told b s [] p o
+told b g random o s p h i w = record { lawful = h .lawful; user = i; above = w; short = omega arith; room = h .room }
 
 -- By the validator
 
-module _ (v : Validator) (b g url random o service : List ℕ) (s p m : ℕ) (o′ : List ℕ) (r : Outcome) where
-  pub plain-done : v ≡ validator.Plain → Brings b g url random o → Said (YesNo true) r o o′ → Done (acceptTicket v s p m service url (bringing g random) (decodeTable b)) r b o o′
+module _ (v : Validator) (b g url random o service : List ℕ) (s p m : ℕ) (o′ : List ℕ) (r : Outcome) (x : Bool) (e : x ≡ isPlain v) where
+  pub plain-done : x ≡ true → Lent b g random o → Said (YesNo true) r o o′ → Done (acceptTicket v s p m service url (bringing g random) (decodeTable b)) r b o o′
   unfolding acceptTicket
-  plain-done e h x = done-as (rw e) (only-said (h .lawful .fine) x)
+  plain-done y h d = done-as (rw (sym e ∙ y)) (only-said (h .lawful .fine) d)
 
-  module _ (b′ : List ℕ) (x : Done (grantOrTell s p m service url (bringing g random) (decodeTable b)) r b′ o o′) where
-    pub service-done : v ≡ validator.Service → Done (acceptTicket v s p m service url (bringing g random) (decodeTable b)) r b′ o o′
-    unfolding acceptTicket
-    service-done e = done-as (rw e) x
-
-    pub proxy-done : v ≡ validator.Proxy → Done (acceptTicket v s p m service url (bringing g random) (decodeTable b)) r b′ o o′
-    unfolding acceptTicket
-    proxy-done e = done-as (rw e) x
+  pub other-done : x ≡ false → (b′ : List ℕ) → Done (grantOrTell s p m service url (bringing g random) (decodeTable b)) r b′ o o′
+      → Done (acceptTicket v s p m service url (bringing g random) (decodeTable b)) r b′ o o′
+  unfolding acceptTicket
+  other-done y b′ d = done-as (rw (sym e ∙ y)) d
 
 -- What the ticket leaves
 
@@ -165,8 +173,8 @@ module _ (b : List ℕ) (k : ℕ) (l : Lawful b) (z : Spendable k b) where
       pub parent-stays : Within p b′
       parent-stays = rw (names .1) (above-within (proxyParent ticket) (ticket .session) (stands .above))
 
-pub still-brings : (b b′ g url random o : List ℕ) (k : ℕ) → Brings b g url random o → Spendable k b → Holds b′ (leftBy k (recAt k (decodeTable b .slots)) (remove k (decodeTable b))) → Brings b′ g url random o
-still-brings b b′ g url random o k x z h = record { lawful = left-lawful b k (x .lawful) z b′ h; register = x .register; short = x .short; drawn = x .drawn; room = x .room }
+pub still-lent : (b b′ g random o : List ℕ) (k : ℕ) → Lent b g random o → Spendable k b → Holds b′ (leftBy k (recAt k (decodeTable b .slots)) (remove k (decodeTable b))) → Lent b′ g random o
+still-lent b b′ g random o k x z h = record { lawful = left-lawful b k (x .lawful) z b′ h; panels = x .panels; drawn = x .drawn; room = x .room }
 
 -- By the ruling
 
@@ -188,6 +196,10 @@ module _ (v : Validator) (k : ℕ) (rec : Rec) (renew : Bool) (service url : Lis
 
 -- What is found
 
+pub given-found : (q d e b : List ℕ) (v : Value) (n : ℕ) (f : Found) → Wrote d 0 e n (valueAt false q v) → f ≡ foundAt (ticketSlot (take n e) (decodeTable b))
+    → f ≡ foundAt (ticketSlot (valueAt false q v) (decodeTable b))
+given-found q d e b v n f w h = rw (read-back d e (valueAt false q v) n w) at h
+
 module _ (b text : List ℕ) {f : Found} (e : f ≡ foundAt (ticketSlot text (decodeTable b))) where
   pub found-spendable : {k : ℕ} → f ≡ At k → Spendable k b
   found-spendable {k} y =
@@ -204,7 +216,7 @@ module _ (b text : List ℕ) {f : Found} (e : f ≡ foundAt (ticketSlot text (de
         let n : eqb k 0 ≡ false = ne-eqb k 0 (λ w. omega (arith, found-low (ticketSlot text (decodeTable b)) e y)) in
         rw (sym q) (done-as (rw n) d)
 
-    pub presented-none : f ≡ Nothing → Brings b g url random o → Said (failed v InvalidTicket) r o o′
+    pub presented-none : f ≡ Nothing → Lent b g random o → Said (failed v InvalidTicket) r o o′
         → Done (presented v (ticketSlot text (decodeTable b)) renew service url (bringing g random) (decodeTable b)) r b o o′
     unfolding presented
     presented-none y h s = let q = found-none (ticketSlot text (decodeTable b)) e y in done-as (rw q) (only-said (h .lawful .fine) s)

@@ -1,2 +1,2 @@
 -- Words for the contracts of a presented ticket.
-pub mod Brings
+pub mod Presented

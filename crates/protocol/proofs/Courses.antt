@@ -101,7 +101,7 @@ pub data GetCourse (a : Asked) (g : Brought) (t : Table) : Step → Type 0 where
   away : a .renew ≡ false → a .gateway ≡ true → isEmpty (a .service) ≡ false → GetCourse a g t (step t (RedirectTo (a .service) []))
   form-shown : {x : Step} → FormCourse 200 (a .service) (g .random) t x → GetCourse a g t x
 
-pub get-course : (a : Asked) (g : Brought) (t : Table) → GetCourse a g t (taken (wayOf a g t) (a .service) (g .random) t)
+pub get-course : (a : Asked) (g : Brought) (t : Table) → GetCourse a g t (taken (wayOf (unknownService (a .service) (g .register)) a (g .cookie) t) (a .service) (g .random) t)
 unfolding wayOf taken
 get-course a g t =
     fork Goes (unknownService (a .service) (g .register)) unknown

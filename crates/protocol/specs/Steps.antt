@@ -173,11 +173,11 @@ ticketStep mark s service random cookie t = ticketWith (newService mark s servic
 unfoldable pub unknownService : List ℕ → List Entry → Bool
 unknownService service register = not (isEmpty service) && not (registered service register)
 
--- login, GET: which way it goes. Gateway does not count with renew or without service
-unfoldable pub wayOf : Asked → Brought → Table → Way
-wayOf a g t =
-    if (unknownService (a .service) (g .register)) way.Unknown
-    (if (not (a .renew) && ltb 0 (sessionOf (g .cookie) t)) (way.SignedOn (sessionOf (g .cookie) t))
+-- login, GET: which way it goes, the service being unknown or not. Gateway does not count with renew or without service
+unfoldable pub wayOf : Bool → Asked → List ℕ → Table → Way
+wayOf unknown a cookie t =
+    if unknown way.Unknown
+    (if (not (a .renew) && ltb 0 (sessionOf cookie t)) (way.SignedOn (sessionOf cookie t))
     (if (a .gateway && not (a .renew) && not (isEmpty (a .service))) way.Away
     way.Form))
 
@@ -199,7 +199,7 @@ taken way.Form service random t = formStep 200 service random t
 
 unfoldable pub loginGet : Read Asked → Brought → Table → Step
 loginGet Malformed g t = step t (ErrorPage 400)
-loginGet (Given a) g t = taken (wayOf a g t) (a .service) (g .random) t
+loginGet (Given a) g t = taken (wayOf (unknownService (a .service) (g .register)) a (g .cookie) t) (a .service) (g .random) t
 
 -- signed in under a session: with service a ticket of mark 1 and a redirect, else the page
 unfoldable pub admitted : ℕ → List ℕ → List ℕ → List ℕ → Table → Step
@@ -245,10 +245,10 @@ unfoldable pub accepted : ℕ → List ℕ → List ℕ → List ℕ → Table �
 accepted s user service random t = admits (standingOf s user t) user service random t
 
 -- login, POST: what becomes of the credentials; the login ticket was in slot k (0: it was not live), and username or password may be absent
-unfoldable pub admissionOf : ℕ → List ℕ → Bool → Brought → Admission
-admissionOf k service absent g =
-    if (unknownService service (g .register)) admission.Unknown
-    (if (eqb k 0 || absent || not (g .verdict)) admission.Again
+unfoldable pub admissionOf : Bool → ℕ → Bool → Bool → Admission
+admissionOf unknown k absent verdict =
+    if unknown admission.Unknown
+    (if (eqb k 0 || absent || not verdict) admission.Again
     admission.Accepted)
 
 -- and what is done
@@ -259,7 +259,13 @@ entered admission.Accepted user service g t = accepted (sessionOf (g .cookie) t)
 
 -- once the login ticket in slot k is removed
 unfoldable pub credentials : ℕ → Posted → Brought → Table → Step
-credentials k p g t = entered (admissionOf k (p .service) (isEmpty (p .username) || isEmpty (p .password)) g) (p .username) (p .service) g t
+credentials k p g t =
+    entered
+    (admissionOf (unknownService (p .service) (g .register)) k (isEmpty (p .username) || isEmpty (p .password)) (g .verdict))
+    (p .username)
+    (p .service)
+    g
+    t
 
 unfoldable pub loginPost : Read Posted → Brought → Table → Step
 loginPost Malformed g t = step t (ErrorPage 400)

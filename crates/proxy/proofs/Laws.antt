@@ -1,103 +1,102 @@
 -- Proxy, from its parts to protocol's step. Assumes nothing.
-use mathlib.Core.Path.{_≡_, sym, ap, _∙_}
+use mathlib.Core.Path.{_≡_, refl, sym, ap, _∙_}
 use mathlib.Core.Bool.{Bool, true, false, _||_}
-use mathlib.Core.List.{List}
-use Prim.Native.Nat.{ℕ, zero, suc, _≤_}
+use mathlib.Core.List.{List, []}
+use Prim.Native.Nat.{ℕ}
 use native.Mathlib.Omega.{arith}
 use lib.Dec.{eqb}
 use lib.ListN.{length, take}
-use borrow.Author.Tests.{eq-eqb, ne-eqb}
-use Rattle.protocol.specs.Bytes.{isEmpty, same, among}
-use Rattle.protocol.specs.Tickets.{aProxy, aGrant}
+use borrow.Author.Tests.{eq-eqb, ne-eqb, eqb-false}
+use Rattle.protocol.specs.Bytes.{if, isEmpty, same, among}
+use Rattle.protocol.specs.Tickets.{aGrant}
 use Rattle.protocol.specs.Table.{Table, decodeTable, recAt}
 use Rattle.protocol.specs.Register.{decodeRegister, registered}
 use Rattle.protocol.specs.Request.{Malformed, Given, wanted, valueMost}
 use Rattle.protocol.specs.Written.{Wrote}
 use Rattle.protocol.specs.Answers.{ProxyFailure, InvalidRequest, BadPgt, UnauthorizedService, InternalError}
-use Rattle.protocol.specs.Steps.{Brought, slotNamed, roomFor, newRec, proxyWith, proxyBy, proxy}
-use Rattle.protocol.specs.Held.{Fine, Lawful, In, Said, Done, Lent, bringing}
+use Rattle.protocol.specs.Steps.{Brought, Step, step, slotNamed, roomFor, proxyBy, proxy, linkTo}
+use Rattle.protocol.specs.Held.{Fine, Lawful, Said, Done, Lent, bringing}
 use Rattle.protocol.specs.declared.Outcome.{Outcome}
-use Rattle.protocol.proofs.Held.{sound-held, slot-in}
-use Rattle.protocol.proofs.Told.{only-said}
-use Rattle.protocol.proofs.Kept.{SessionView, unnamed, named, session-view, recs3, right-slot}
-use Rattle.protocol.proofs.Searches.{empty, slot-live, slot-within}
+use Rattle.protocol.proofs.Laws.{or-both}
+use Rattle.protocol.proofs.Held.{sound-held, session-in}
+use Rattle.protocol.proofs.Told.{only-said, done-as}
+use Rattle.protocol.proofs.Searches.{empty, slot-live}
+use Rattle.text.proofs.Splice.{read-back}
 use Rattle.table_find.specs.Searches.{foundAt}
 use Rattle.table_find.specs.declared.Found.{Found}
 use Rattle.table_find.specs.declared.Found.the-variants.{At, Nothing}
 use Rattle.table_find.proofs.Laws.{found-is, found-low, found-none, named-slot}
-use Rattle.request.specs.Value.{valueAt}
+use Rattle.request.specs.Value.{valueAt, Readable}
 use Rattle.request.specs.Spelled.{spelledWanted, WantedFits, WantedIn}
 use Rattle.request.specs.declared.Value.{Value}
 use Rattle.request.specs.declared.ProxyQuery.{ProxyQuery}
 use Rattle.request.specs.declared.ProxyQuery.the-variants as proxy-query
-use Rattle.text.proofs.Splice.{read-back}
-use Rattle.issue.specs.Offers.{Offer}
-use Rattle.proxy.specs.Asking.{Live, Values, proxyFor}
+use Rattle.known.proofs.Laws.{known-short}
+use Rattle.issue.specs.Offers.{Offer, proxyAnew}
+use Rattle.issue.proofs.Laws.{none-given, some-given}
+use Rattle.proxy.specs.Asking.{Live, Values, proxyUnder, proxyFor}
 
 -- a live grant's slot, and its session's
-session-slot : (b : List ℕ) (s : ℕ) → recAt s (decodeTable b .slots) .kind ≡ 2 → In s b
-session-slot b zero e = absurd (omega arith)
-session-slot b (suc s) e = slot-in b (suc s) (omega arith) (slot-within (decodeTable b .slots) (suc s) (λ z. omega arith))
-
 pub grant-live : (b pgt : List ℕ) (k : ℕ) {f : Found} → Lawful b → f ≡ foundAt (slotNamed aGrant pgt (decodeTable b)) → f ≡ At k → Live k b
 grant-live b pgt k l e a =
     let t : Table = decodeTable b in
-    let s = sound-held b l in
     let n : k ≡ slotNamed aGrant pgt t = found-is (slotNamed aGrant pgt t) e a in
     let v = slot-live aGrant pgt t (omega (arith, found-low (slotNamed aGrant pgt t) e a)) in
     let h : recAt k (t .slots) .kind ≡ 6 = rw n (v .is) in
-    record {
-      here = named-slot b a aGrant pgt e;
-      session = session-slot b (recAt k (t .slots) .session) (under h (session-view (t .slots) (recAt k (t .slots)) (recs3 (t .clock) (t .next) (t .slots) (recAt k (t .slots)) (right-slot (t .clock) (t .next) (t .slots) (s .rules .records) k) .1)));
-    }
-  where
-    under : recAt k (decodeTable b .slots) .kind ≡ 6 → SessionView (decodeTable b .slots) (recAt k (decodeTable b .slots)) → recAt (recAt k (decodeTable b .slots) .session) (decodeTable b .slots) .kind ≡ 2
-    under h (unnamed x y) = absurd (omega arith)
-    under h (named x y z w) = y
+    record { here = named-slot b a aGrant pgt e; session = session-in b k (sound-held b l) (omega arith) }
 
--- what the ticket's issue asks for
-pub offered : (b register random o target : List ℕ) → Lent b register random o → length target ≤ 200 → Offer b target random o
-offered b register random o target g h = record { fine = g .lawful .fine; short = h; drawn = g .drawn; out = g .room }
+-- `under`: no such service, a ticket, or no room
+module _ (b o o′ known random : List ℕ) (k : ℕ) {r : Outcome} where
+  pub unregistered : length known ≡ 0 → Fine b → Said (ProxyFailure UnauthorizedService) r o o′ → Done (proxyUnder k known random (decodeTable b)) r b o o′
+  unfolding proxyUnder
+  unregistered h f s = rw (none-given known h) (only-said f s)
+
+  module _ (h : length known ≡ 0 → ⊥) {x : Bool} (e : x ≡ roomFor 1 (decodeTable b)) where
+    pub ticketed : {b′ : List ℕ} → x ≡ true → Done (proxyAnew k known random (decodeTable b)) r b′ o o′ → Done (proxyUnder k known random (decodeTable b)) r b′ o o′
+    unfolding proxyUnder
+    ticketed z d = rw (some-given known h, ← e, z) d
+
+    pub full : x ≡ false → Fine b → Said (ProxyFailure InternalError) r o o′ → Done (proxyUnder k known random (decodeTable b)) r b o o′
+    unfolding proxyUnder
+    full z f s = rw (some-given known h, ← e, z) (only-said f s)
 
 pub room-known : (t : Table) {x : Bool} → x ≡ roomFor 1 t → x ≡ true → roomFor 1 t ≡ true
 room-known t e p = sym e ∙ p
 
-some-slot : (b : List ℕ) (k : ℕ) → Live k b → eqb k 0 ≡ false
-some-slot b k l = ne-eqb k 0 (λ e. omega (arith, l .here .low))
+-- `find_given`: the text that was read stands at the front of its buffer
+pub grant-found : (q b d e : List ℕ) (p : Value) (n : ℕ) {f : Found} → Wrote d 0 e n (valueAt false q p) → f ≡ foundAt (slotNamed aGrant (take n e) (decodeTable b))
+    → f ≡ foundAt (slotNamed aGrant (valueAt false q p) (decodeTable b))
+grant-found q b d e p n w x = rw (read-back d e (valueAt false q p) n w) at x
 
-module _ (b o o′ target random register : List ℕ) (k : ℕ) {r : Outcome} where
-  -- under a grant: a ticket, no room, or no such service
-  pub ticketed : {b′ : List ℕ} {x y : Bool} → Live k b → x ≡ registered target (decodeRegister register) → x ≡ true → y ≡ roomFor 1 (decodeTable b) → y ≡ true
-      → Done (proxyWith (newRec aProxy 0 k (recAt k (decodeTable b .slots) .session) 0 target random (decodeTable b)) (decodeTable b)) r b′ o o′
-      → Done (proxyBy k target (bringing register random) (decodeTable b)) r b′ o o′
-  unfolding proxyBy
-  ticketed l e p f q d =
-      let w : registered target (decodeRegister register) ≡ true = sym e ∙ p in
-      let v : roomFor 1 (decodeTable b) ≡ true = sym f ∙ q in
-      rw (some-slot b k l, w, v) d
+-- `ask`: what the ticket's issue asks for
+pub offered : (b register random o q v : List ℕ) (p t : Value) → Lent b register random o → Values q p t → v ≡ linkTo (valueAt false q t) (decodeRegister register) → Offer b v random o
+offered b register random o q v p t g h e =
+    record { fine = g .lawful .fine; short = known-short false 200 q v t (decodeRegister register) e (h .target); drawn = g .drawn; out = g .room }
 
-  pub full : {x y : Bool} → Live k b → Fine b → x ≡ registered target (decodeRegister register) → x ≡ true → y ≡ roomFor 1 (decodeTable b) → y ≡ false
-      → Said (ProxyFailure InternalError) r o o′ → Done (proxyBy k target (bringing register random) (decodeTable b)) r b o o′
-  unfolding proxyBy
-  full l g e p f q s =
-      let w : registered target (decodeRegister register) ≡ true = sym e ∙ p in
-      let v : roomFor 1 (decodeTable b) ≡ false = sym f ∙ q in
-      rw (some-slot b k l, w, v) (only-said g s)
+-- by the grant's text: a target that is not absent is registered just where something was found, and that is the target
+module _ (b o o′ q register random : List ℕ) (p t : Value) {r : Outcome} {f : Found} (e : f ≡ foundAt (slotNamed aGrant (valueAt false q p) (decodeTable b))) where
+  pub by-slot : (v : List ℕ) {b′ : List ℕ} {k : ℕ} → f ≡ At k → Values q p t → v ≡ linkTo (valueAt false q t) (decodeRegister register) → Done (proxyUnder k v random (decodeTable b)) r b′ o o′
+      → Done (proxyFor (valueAt false q p) (valueAt false q t) (bringing register random) (decodeTable b)) r b′ o o′
+  unfolding proxyFor proxyBy proxyUnder linkTo
+  by-slot v {k = k} a h w d =
+      let s : ℕ = slotNamed aGrant (valueAt false q p) (decodeTable b) in
+      let i : k ≡ s = found-is s e a in
+      let m : isEmpty (valueAt false q t) ≡ false = some-given (valueAt false q t) (λ z. omega (arith, h .some, h .target .long)) in
+      done-as (rw (w, ← i, ne-eqb k 0 (λ z. omega (arith, found-low s e a))) (go (valueAt false q t) (registered (valueAt false q t) (decodeRegister register)) m)) d
+    where
+      on : List ℕ → Step
+      on l = if (roomFor 1 (decodeTable b)) (proxyAnew k l random (decodeTable b)) (step (decodeTable b) (ProxyFailure InternalError))
 
-  pub unregistered : {x : Bool} → Live k b → Fine b → x ≡ registered target (decodeRegister register) → x ≡ false
-      → Said (ProxyFailure UnauthorizedService) r o o′ → Done (proxyBy k target (bringing register random) (decodeTable b)) r b o o′
-  unfolding proxyBy
-  unregistered l g e p s = let w : registered target (decodeRegister register) ≡ false = sym e ∙ p in rw (some-slot b k l, w) (only-said g s)
+      refused : Step
+      refused = step (decodeTable b) (ProxyFailure UnauthorizedService)
 
--- by the grant's text
-module _ (b o o′ pgt target : List ℕ) (g : Brought) {r : Outcome} {f : Found} (e : f ≡ foundAt (slotNamed aGrant pgt (decodeTable b))) where
-  pub by-slot : {b′ : List ℕ} {k : ℕ} → f ≡ At k → Done (proxyBy k target g (decodeTable b)) r b′ o o′ → Done (proxyFor pgt target g (decodeTable b)) r b′ o o′
-  unfolding proxyFor
-  by-slot a d = rw (found-is (slotNamed aGrant pgt (decodeTable b)) e a) at d
+      go : (l : List ℕ) (x : Bool) → isEmpty l ≡ false → if (isEmpty (if x l [])) refused (on (if x l [])) ≡ if x (on l) refused
+      go l true m = rw m
+      go l false m = refl
 
-  pub no-grant : f ≡ Nothing → Fine b → Said (ProxyFailure BadPgt) r o o′ → Done (proxyFor pgt target g (decodeTable b)) r b o o′
+  pub no-grant : f ≡ Nothing → Fine b → Said (ProxyFailure BadPgt) r o o′ → Done (proxyFor (valueAt false q p) (valueAt false q t) (bringing register random) (decodeTable b)) r b o o′
   unfolding proxyFor proxyBy
-  no-grant a h s = rw (eq-eqb (slotNamed aGrant pgt (decodeTable b)) 0 (found-none (slotNamed aGrant pgt (decodeTable b)) e a)) (only-said h s)
+  no-grant a h s = rw (eq-eqb (slotNamed aGrant (valueAt false q p) (decodeTable b)) 0 (found-none (slotNamed aGrant (valueAt false q p) (decodeTable b)) e a)) (only-said h s)
 
 -- By what was read
 
@@ -109,15 +108,20 @@ module _ (q : List ℕ) (x : ProxyQuery) (k : WantedIn q x) where
       rw (sym m) (only-said f s)
 
   module _ {p t : Value} (e : x ≡ proxy-query.Given p t) where
-    pub values-in : Values q p t
+    readable : Readable false 64 q p × Readable false 200 q t
     unfolding valueMost among same
-    values-in = let f : WantedFits q (proxy-query.Given p t) = rw e at (k .fits) in record { pgt = f .0; target = f .1 }
+    readable = let f : WantedFits q (proxy-query.Given p t) = rw e at (k .fits) in f
+
+    pub values-in : eqb (p .length) 0 || eqb (t .length) 0 ≡ false → Values q p t
+    values-in z =
+        let n : t .length ≡ 0 → ⊥ = eqb-false (t .length) 0 (or-both (eqb (p .length) 0) (eqb (t .length) 0) z .1) in
+        record { pgt = readable .0; target = readable .1; some = omega arith }
 
     asks : Given (record { pgt = valueAt false q p; target = valueAt false q t }) ≡ wanted q
     asks = sym (ap (spelledWanted q) e) ∙ k .spells
 
     lacks : isEmpty (valueAt false q p) || isEmpty (valueAt false q t) ≡ eqb (p .length) 0 || eqb (t .length) 0
-    lacks = rw (empty (valueAt false q p) (p .length) (values-in .pgt .long), empty (valueAt false q t) (t .length) (values-in .target .long))
+    lacks = rw (empty (valueAt false q p) (p .length) (readable .0 .long), empty (valueAt false q t) (t .length) (readable .1 .long))
 
     module _ (b o o′ : List ℕ) (g : Brought) {r : Outcome} where
       pub absent : eqb (p .length) 0 || eqb (t .length) 0 ≡ true → Fine b → Said (ProxyFailure InvalidRequest) r o o′ → Done (proxy (wanted q) g (decodeTable b)) r b o o′
@@ -127,11 +131,3 @@ module _ (q : List ℕ) (x : ProxyQuery) (k : WantedIn q x) where
       pub answered : {b′ : List ℕ} → eqb (p .length) 0 || eqb (t .length) 0 ≡ false → Done (proxyFor (valueAt false q p) (valueAt false q t) g (decodeTable b)) r b′ o o′ → Done (proxy (wanted q) g (decodeTable b)) r b′ o o′
       unfolding proxy proxyFor
       answered z d = rw (sym asks, lacks, z) d
-
--- what was read stands at the front of its buffer
-pub target-most : (q d e : List ℕ) (p t : Value) (n : ℕ) → Values q p t → Wrote d 0 e n (valueAt false q t) → length (take n e) ≤ 200
-target-most q d e p t n h w = rw (read-back d e (valueAt false q t) n w) (omega (arith, h .target .long, h .target .fits))
-
-pub asked : (q b d e d₂ e₂ : List ℕ) (p t : Value) (n n₂ : ℕ) (g : Brought) {b′ o o′ : List ℕ} {r : Outcome} → Wrote d 0 e n (valueAt false q p) → Wrote d₂ 0 e₂ n₂ (valueAt false q t)
-    → Done (proxyFor (take n e) (take n₂ e₂) g (decodeTable b)) r b′ o o′ → Done (proxyFor (valueAt false q p) (valueAt false q t) g (decodeTable b)) r b′ o o′
-asked q b d e d₂ e₂ p t n n₂ g w w₂ x = rw (read-back d e (valueAt false q p) n w, read-back d₂ e₂ (valueAt false q t) n₂ w₂) at x

@@ -13,11 +13,12 @@ use Rattle.protocol.specs.Request.{pieces, nameIn, valueIn, countNamed, firstNa
 use Rattle.protocol.specs.declared.Path.{Path}
 use Rattle.protocol.proofs.Pieces.{take-upTo, past-drop}
 use Rattle.text.specs.First.{FirstAt}
+use Rattle.text.proofs.Laws.{tail-part}
 use Rattle.query.specs.Piece.{pieceAt, pieceAfter}
 use Rattle.query.specs.Place.{Inside, notedBy, rawIn, Noted, Walked}
 use Rattle.query.specs.declared.Piece.{Piece}
 use Rattle.query.specs.declared.Place.{Place}
-use Rattle.query.proofs.Pieces.{Found, told-end, told-piece, tail-part, drop-end}
+use Rattle.query.proofs.Pieces.{Found, told-end, told-piece, drop-end}
 
 -- a path is told apart by a ladder of comparisons
 pub rung-yes : (p l : List ℕ) (x rest : Path) (r : Bool) → r ≡ same p l → r ≡ true → x ≡ if (same p l) x rest

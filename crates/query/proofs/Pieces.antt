@@ -8,12 +8,13 @@ use native.Mathlib.Omega.{arith}
 use borrow.Author.Tests.{eq-eqb, ne-eqb, eqb-true, ltb-true, ltb-false}
 use lib.Dec.{eqb, ltb}
 use lib.ListN.{length, take, drop, getD, length-drop, drop-of-length-le}
-use lib.Seq.{take-all, take-nil, drop-drop, take-take}
+use lib.Seq.{take-nil, drop-drop, take-take}
 use Rattle.protocol.specs.Bytes.{if, upTo, past, cutAt, part}
 use Rattle.protocol.specs.Request.{kept, pieces, nameIn, valueIn}
 use Rattle.protocol.proofs.Pieces.{pieces-step, pieces-none, take-upTo, past-drop}
 use Rattle.protocol.proofs.Laws.{drop-step}
 use Rattle.text.specs.First.{FirstAt}
+use Rattle.text.proofs.Laws.{tail-part}
 use Rattle.query.specs.Piece.{leading, pieceAt, pieceFrom, pieceAfter}
 use Rattle.query.specs.declared.Piece.{Piece}
 
@@ -62,10 +63,7 @@ module _ (q : List ℕ) (at i : ℕ) (inv : at + leading (drop at q) ≡ i + lea
       let z : leading (drop i q) ≡ 0 = ap leading (drop-end q i h) in
       omega arith
 
--- `next_piece`: what stands from a place on, as `&query[start..]` has it
-pub tail-part : (q : List ℕ) (a : ℕ) → take (length q - a) (drop a q) ≡ drop a q
-tail-part q a = take-all (length q - a) (drop a q) (omega (arith, length-drop a q))
-
+-- `next_piece`
 abbrev pub placed : ℕ → ℕ → ℕ → ℕ → Piece
 placed start mid value end = record { start = start; mid = mid; value = value; end = end }
 

@@ -14,11 +14,10 @@ use Rattle.protocol.specs.Blocks.{checkRight}
 use Rattle.protocol.specs.Register.{Entry, entryRight, decodeEntry, decodeRegister, addressRight, registerShape, registerLawful, registered, callbackOf}
 use Rattle.protocol.specs.Panels.{entry, panelRight, serviceIn, atFault, faultFrom, fault, faultOf}
 use Rattle.protocol.specs.declared.Fault.{Fault}
-use Rattle.protocol.proofs.Laws.{one-test}
+use Rattle.protocol.proofs.Laws.{one-test, same-eq}
 use Rattle.protocol.proofs.Faults.{behind, said, faults-none, faults-some, fault-refusal}
 use Rattle.text.proofs.Laws.{lengths-differ}
-use Rattle.protocol.specs.Steps.{unknownService}
-use Rattle.register.specs.Blockwise.{secure, restRight, placeOf}
+use Rattle.register.specs.Blockwise.{secure, restRight, placeOf, callbackIn}
 
 -- `address_right`
 pub address-as : (s : List ℕ) (r h : Bool) → r ≡ allWithin 33 126 s → h ≡ holds 35 s → r && not h ≡ addressRight s
@@ -58,6 +57,11 @@ module _ (b : List ℕ) (at n k : ℕ) (long : length b ≡ 512) (e : n ≡ k) w
 pub service-there : (b v : List ℕ) (k : ℕ) → v ≡ decodeEntry (part (512 * k) (512 * k + 512 - 512 * k) b) .service → v ≡ serviceIn b k
 unfolding serviceIn
 service-there b v k e = let w : 512 * k + 512 - 512 * k ≡ 512 = omega arith in e ∙ ap (λ (i : ℕ). decodeEntry (part (512 * k) i b) .service) w
+
+-- `callback_at`
+pub callback-there : (b v : List ℕ) (k : ℕ) → v ≡ decodeEntry (part (512 * k) (512 * k + 512 - 512 * k) b) .callback → v ≡ callbackIn b k
+unfolding callbackIn
+callback-there b v k e = let w : 512 * k + 512 - 512 * k ≡ 512 = omega arith in e ∙ ap (λ (i : ℕ). decodeEntry (part (512 * k) i b) .callback) w
 
 -- `rest_right`: the parts as the code has them
 module _ (b : List ℕ) (n m : ℕ) (long : length b ≡ 512) (short : n ≤ 200) (brief : m ≤ 200) where
@@ -115,7 +119,7 @@ module _ (s b : List ℕ) (m k : ℕ) (l : Looking s b m k) where
     pub look-next : r ≡ false → Looking s b m (k + 1)
     look-next f = record { count = l .count; high = omega arith; place = omega (arith, rw f at here) }
 
--- `registered` and `callback_of`: by the place
+-- what stands at the place
 both-more : (p n : ℕ) → ltb (suc p) (suc n) ≡ ltb p n
 both-more p n = one-test (ltb (suc p) (suc n)) (ltb p n) (λ e. lt-ltb p n (omega (arith, ltb-true (suc p) (suc n) e))) (λ e. lt-ltb (suc p) (suc n) (omega (arith, ltb-true p n e)))
 
@@ -148,6 +152,22 @@ module _ (s : List ℕ) where
       later true q r = absurd (omega arith)
       later false q r = ap (λ (x : List ℕ). decodeEntry x .callback) (sym (behind b p)) ∙ r (omega arith) (omega arith)
 
+  service-place : (n : ℕ) (b : List ℕ) (p : ℕ) → p ≡ placeOf s (said n b) → p < n → same s (decodeEntry (part (512 * p) 512 b) .service) ≡ true
+  unfolding placeOf blocks
+  service-place zero b p e h = absurd (omega arith)
+  service-place (suc n) b zero e h = first (same s (decodeEntry (take 512 b) .service)) e
+    where
+      first : (x : Bool) → 0 ≡ if x 0 (suc (placeOf s (said n (drop 512 b)))) → x ≡ true
+      first true q = refl
+      first false q = absurd (omega arith)
+  service-place (suc n) b (suc p) e h = later (same s (decodeEntry (take 512 b) .service)) e (service-place n (drop 512 b) p)
+    where
+      later : (x : Bool) → suc p ≡ if x 0 (suc (placeOf s (said n (drop 512 b))))
+          → (p ≡ placeOf s (said n (drop 512 b)) → p < n → same s (decodeEntry (part (512 * p) 512 (drop 512 b)) .service) ≡ true)
+          → same s (decodeEntry (part (512 * suc p) 512 b) .service) ≡ true
+      later true q r = absurd (omega arith)
+      later false q r = ap (λ (x : List ℕ). same s (decodeEntry x .service)) (sym (behind b p)) ∙ r (omega arith) (omega arith)
+
   callback-none : (n : ℕ) (b : List ℕ) → n ≤ placeOf s (said n b) → callbackOf s (said n b) ≡ []
   unfolding placeOf callbackOf blocks
   callback-none zero b h = refl
@@ -164,15 +184,18 @@ module _ (s b : List ℕ) (p : ℕ) (e : p ≡ placeOf s (decodeRegister b)) whe
   unfolding decodeRegister
   stands = rw e (registered-place s (length b / 512) b)
 
-  pub callback-there : (c : List ℕ) → p < length b / 512 → c ≡ decodeEntry (part (512 * p) (512 * p + 512 - 512 * p) b) .callback → c ≡ callbackOf s (decodeRegister b)
-  unfolding decodeRegister
-  callback-there c h q =
-      let w : 512 * p + 512 - 512 * p ≡ 512 = omega arith in
-      q ∙ ap (λ (i : ℕ). decodeEntry (part (512 * p) i b) .callback) w ∙ callback-place s (length b / 512) b p e h
+  pub callback-found : p < length b / 512 → callbackIn b p ≡ callbackOf s (decodeRegister b)
+  unfolding decodeRegister callbackIn
+  callback-found h = callback-place s (length b / 512) b p e h
 
   pub callback-nowhere : length b / 512 ≤ p → take 0 b ≡ callbackOf s (decodeRegister b)
   unfolding decodeRegister
   callback-nowhere h = sym (callback-none s (length b / 512) b (rw (← e) h))
+
+  -- the service that is found is the one that was looked for
+  pub service-found : p < length b / 512 → s ≡ serviceIn b p
+  unfolding decodeRegister serviceIn
+  service-found h = same-eq s (decodeEntry (part (512 * p) 512 b) .service) (service-place s (length b / 512) b p e h)
 
 -- `at_fault`
 pub blocks-before : (b : List ℕ) (k : ℕ) → 512 * k + 512 ≤ length b → 512 * k ≡ length (take (512 * k) b)
@@ -243,14 +266,3 @@ lawful-as b r e = ap (λ (x : Fault). eqb (x .refusal) 0) e ∙ rw (fault-refusa
     go : (x : Bool) → eqb (if x 0 3) 0 ≡ x
     go true = refl
     go false = refl
-
--- `unknown_service`: none is given, or one that is known or not
-pub unknown-none : (s : List ℕ) (g : List Entry) → length s ≡ 0 → false ≡ unknownService s g
-unfolding unknownService
-unknown-none [] g h = refl
-unknown-none (x ∷ s) g h = absurd (omega arith)
-
-pub unknown-some : (s : List ℕ) (g : List Entry) (r : Bool) → (length s ≡ 0 → ⊥) → r ≡ registered s g → not r ≡ unknownService s g
-unfolding unknownService
-unknown-some [] g r h e = absurd (h refl)
-unknown-some (x ∷ s) g r h e = rw e

@@ -1,11 +1,11 @@
 -- What the code of the register computes on the way: the rest of a block beside its two texts, and where a service stands.
 use mathlib.Core.Bool.{Bool, true, _&&_}
 use mathlib.Core.List.{List, [], _∷_}
-use Prim.Native.Nat.{ℕ, suc, _+_, _-_}
+use Prim.Native.Nat.{ℕ, suc, _+_, _-_, _*_}
 use lib.ListN.{take}
 use Rattle.protocol.specs.Bytes.{if, ascii, isEmpty, same, allWithin, part}
 use Rattle.protocol.specs.Blocks.{checkRight}
-use Rattle.protocol.specs.Register.{Entry}
+use Rattle.protocol.specs.Register.{Entry, decodeEntry}
 
 -- a callback is empty or begins `https://`
 unfoldable pub secure : List ℕ → Bool
@@ -19,3 +19,7 @@ restRight n m b = checkRight b && allWithin 0 0 (part (4 + n) (200 - n) b) && al
 unfoldable pub placeOf : List ℕ → List Entry → ℕ
 placeOf s [] = 0
 placeOf s (e ∷ es) = if (same s (e .service)) 0 (suc (placeOf s es))
+
+-- the callback that block k says, the first block being 0
+unfoldable pub callbackIn : List ℕ → ℕ → List ℕ
+callbackIn b k = decodeEntry (part (512 * k) 512 b) .callback

@@ -1,5 +1,5 @@
-// The panel register: judged block by block, a service found in it, the callback of a service handed out as a part of the register's own
-// bytes, and a block made. A block: 0-1 and 2-3 lengths of service and callback, 4-203 service, 204-403 callback, rest zero before the
+// The panel register: judged block by block, service and callback of a block handed out as parts of the register's own bytes, and a block
+// made. A block: 0-1 and 2-3 lengths of service and callback, 4-203 service, 204-403 callback, rest zero before the
 // check.
 use protocol::Fault;
 ghost use mathlib.Core.Path.{_≡_};
@@ -7,10 +7,9 @@ ghost use Prim.Native.Nat.{_+_, _*_, _/_, _≤_};
 ghost use lib.ListN.{length};
 ghost use Rattle.protocol.specs.Bytes.{num, part};
 ghost use Rattle.protocol.specs.Register.{addressRight, entryRight, encodeEntry, decodeEntry, decodeRegister};
-ghost use Rattle.protocol.specs.Register.{registerShape, registerLawful, registered, callbackOf};
+ghost use Rattle.protocol.specs.Register.{registerShape, registerLawful, registered};
 ghost use Rattle.protocol.specs.Panels.{entry, panelRefusal, made, panelOf, panelRight, serviceIn, atFault, faultFrom, faultOf};
-ghost use Rattle.protocol.specs.Steps.{unknownService};
-ghost use Rattle.register.specs.Blockwise.{secure, restRight, placeOf};
+ghost use Rattle.register.specs.Blockwise.{secure, restRight, placeOf, callbackIn};
 
 // ---- the rules of an entry
 
@@ -98,13 +97,23 @@ fn block_right(b: &[u8]) -> bool
 // ---- services
 
 // The service of block k, where it stands.
-fn service_at<'a>(b: &'a [u8], k: usize) -> &'a [u8]
+pub fn service_at<'a>(b: &'a [u8], k: usize) -> &'a [u8]
     requires { ⌜ 512 * k + 512 ≤ length (now b) ⌝ }
     ensures { λ r. ⌜ now r ≡ serviceIn (now (b .entry)) k ⌝ }
 {
     let from = 512 * k;
     let to = from + 512;
     service_of(&b[from..to])
+}
+
+// And its callback.
+pub fn callback_at<'a>(b: &'a [u8], k: usize) -> &'a [u8]
+    requires { ⌜ 512 * k + 512 ≤ length (now b) ⌝ }
+    ensures { λ r. ⌜ now r ≡ callbackIn (now (b .entry)) k ⌝ }
+{
+    let from = 512 * k;
+    let to = from + 512;
+    callback_in(&b[from..to])
 }
 
 // The first block that has a service; the count of blocks where none has.
@@ -122,33 +131,10 @@ fn place_of(b: &[u8], service: &[u8]) -> usize
     m
 }
 
-pub fn registered(b: &[u8], service: &[u8]) -> bool
+fn registered(b: &[u8], service: &[u8]) -> bool
     ensures { λ r. ⌜ r ≡ registered (now (service .entry)) (decodeRegister (now (b .entry))) ⌝ }
 {
     place_of(b, service) < b.len() / 512
-}
-
-// A service that is given and not in the register.
-pub fn unknown_service(b: &[u8], service: &[u8]) -> bool
-    ensures { λ r. ⌜ r ≡ unknownService (now (service .entry)) (decodeRegister (now (b .entry))) ⌝ }
-{
-    if service.len() == 0 {
-        return false;
-    }
-    !registered(b, service)
-}
-
-// Empty where the service is not registered.
-pub fn callback_of<'a, 'b>(b: &'a [u8], service: &'b [u8]) -> &'a [u8]
-    ensures { λ r. ⌜ now r ≡ callbackOf (now (service .entry)) (decodeRegister (now (b .entry))) ⌝ }
-{
-    let k = place_of(b, service);
-    if k < b.len() / 512 {
-        let from = 512 * k;
-        let to = from + 512;
-        return callback_in(&b[from..to]);
-    }
-    &b[..0]
 }
 
 // ---- the judge

@@ -1,3 +1,3 @@
--- Laws of the texts that templates give, of addresses, and the examples of document 01 that are about them.
+-- Laws of the texts of pages and addresses in parts, and the examples of document 01 that are about them.
 pub mod Texts
 pub mod Worked

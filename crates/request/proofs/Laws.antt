@@ -13,7 +13,8 @@ use Rattle.protocol.specs.Request.{rawValue, decodedFrom, decoded, valueMost, c
 use Rattle.protocol.specs.Written.{Room, Wrote}
 use Rattle.protocol.specs.declared.Validator.{Validator}
 use Rattle.protocol.specs.declared.Validator.the-variants as validator
-use Rattle.protocol.proofs.Laws.{both, or-both, or-true}
+use Rattle.protocol.proofs.Laws.{both, or-both, or-true, one-test, same-eq, same-refl}
+use Rattle.text.proofs.Laws.{lengths-differ}
 use Rattle.utf8.proofs.Small.{name-bytes}
 use Rattle.query.specs.Place.{Inside, rawIn, Noted, Walked}
 use Rattle.query.specs.declared.Place.{Place}
@@ -93,6 +94,21 @@ module _ (inBody : Bool) (q raw old : List ℕ) (v : Value) (h : Readable inBody
 
   pub read-wrote : (new : List ℕ) (r : ℕ) → Wrote old 0 new r (decoded inBody raw) → Wrote old 0 new r (valueAt inBody q v)
   read-wrote new r w = rw e at w
+
+-- `is_text`
+module _ (inBody : Bool) (q text : List ℕ) (v : Value) where
+  pub text-of-other-length : v .length ≡ length (valueAt inBody q v) → (v .length ≡ length text → ⊥) → false ≡ same (valueAt inBody q v) text
+  text-of-other-length e x = lengths-differ (valueAt inBody q v) text (λ k. x (e ∙ k))
+
+  pub text-in-place : (raw : List ℕ) (r : Bool) → raw ≡ part (v .from) (v .to - v .from) q → r ≡ same (decoded inBody raw) text → r ≡ same (valueAt inBody q v) text
+  text-in-place raw r e k = k ∙ ap (λ (l : List ℕ). same (decoded inBody l) text) e
+
+-- for callers: two texts are the same either way
+pub same-either : (a b : List ℕ) → same a b ≡ same b a
+same-either a b = one-test (same a b) (same b a) (turned a b) (turned b a)
+  where
+    turned : (x y : List ℕ) → same x y ≡ true → same y x ≡ true
+    turned x y e = let q : x ≡ y = same-eq x y e in rw q (same-refl y)
 
 -- for callers: a value may be read into a buffer of its limit
 pub readable-in : (inBody : Bool) (most : ℕ) (q out : List ℕ) (v : Value) → Readable inBody most q v → most ≤ length out → Readable inBody (length out) q v

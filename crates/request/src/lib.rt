@@ -1,11 +1,12 @@
 // A request read once: one walk over its query or body finds the names that its path uses, each value is judged once, and the
-// answer is malformed, or where the values lie in the caller's own bytes and what is set. Nothing is written until a value is
-// decoded from its place into a lent buffer.
+// answer is malformed, or where the values lie in the caller's own bytes and what is set. A value is compared where it lies, and
+// nothing is written unless it is decoded from there into a lent buffer.
 use decode::Judged;
 use protocol::Validator;
 use query::Place;
 ghost use mathlib.Core.Path.{_≡_};
 ghost use mathlib.Core.Bool.{true, false};
+ghost use Rattle.protocol.specs.Bytes.{same};
 ghost use Rattle.protocol.specs.Written.{Wrote};
 ghost use lib.ListN.{length};
 ghost use Rattle.query.specs.Place.{Inside};
@@ -224,4 +225,16 @@ pub fn read(q: &[u8], value: Value, in_body: bool, out: &mut [u8]) -> usize
 {
     let raw = query::raw_at(q, value.from, value.to);
     decode::decode_value(raw, in_body, out)
+}
+
+// Whether a value is this text, compared where it lies.
+pub fn is_text(q: &[u8], value: Value, in_body: bool, text: &[u8]) -> bool
+    requires { ⌜ (Inside (now q) (value .from) (value .to)) × (value .length ≡ length (valueAt in_body (now q) value)) ⌝ }
+    ensures { λ r. ⌜ r ≡ same (valueAt in_body (now (q .entry)) value) (now (text .entry)) ⌝ }
+{
+    if value.length != text.len() {
+        return false;
+    }
+    let raw = query::raw_at(q, value.from, value.to);
+    decode::is_text(raw, in_body, text)
 }

@@ -10,6 +10,7 @@ use Rattle.protocol.specs.Records.{Rec}
 use Rattle.protocol.specs.Steps.{takesProxies, proxyParent, rulingOf}
 use Rattle.protocol.specs.declared.Validator.{Validator}
 use Rattle.protocol.specs.declared.Ruling.the-variants as ruling
+use Rattle.request.proofs.Laws.{same-either}
 
 pub parent-of-proxy : (r : Rec) (k p : ℕ) → k ≡ r .kind → k ≡ 4 → p ≡ r .parent → p ≡ proxyParent r
 parent-of-proxy r k p e h q = let z : eqb (r .kind) 4 ≡ true = eq-eqb (r .kind) 4 (sym e ∙ h) in rw z q
@@ -30,12 +31,12 @@ module _ (v : Validator) (renew : Bool) (service : List ℕ) (r : Rec) (k : ℕ)
     unfolding rulingOf
     stale q = let z : renew && eqb (r .mark) 0 ≡ true = rw (sym g) q in rw (native, z)
 
-    module _ (own : Bool) (x : List ℕ) (t : x ≡ r .text) (o : own ≡ same x service) (q : renew && eqb m 0 ≡ false) where
+    module _ (own : Bool) (x : List ℕ) (t : x ≡ r .text) (o : own ≡ same service x) (q : renew && eqb m 0 ≡ false) where
       fresh : renew && eqb (r .mark) 0 ≡ false
       fresh = rw (sym g) q
 
       is-own : own ≡ same (r .text) service
-      is-own = o ∙ ap (λ (s : List ℕ). same s service) t
+      is-own = o ∙ ap (same service) t ∙ same-either service (r .text)
 
       pub taken : own ≡ true → (s p y : ℕ) → s ≡ r .session → p ≡ proxyParent r → y ≡ r .mark → ruling.Accepted s p y ≡ rulingOf v renew service r
       unfolding rulingOf

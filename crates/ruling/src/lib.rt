@@ -1,10 +1,12 @@
 // The ruling on a presented ticket: what is to be said of it, found before it is spent and answered only after that.
 use protocol::Ruling;
 use protocol::Validator;
+use request::Value;
 ghost use mathlib.Core.Path.{_≡_};
-ghost use mathlib.Core.Bool.{not};
+ghost use mathlib.Core.Bool.{false, not};
 ghost use Rattle.protocol.specs.Steps.{takesProxies, proxyParent, rulingOf};
 ghost use Rattle.protocol.specs.Held.{Fine, In, saidAt};
+ghost use Rattle.request.specs.Value.{valueAt, Readable};
 
 // Only proxyValidate takes proxy tickets.
 fn refuses_proxies(validator: Validator) -> bool
@@ -34,12 +36,13 @@ pub fn ruling_of(
     slot: usize,
     validator: Validator,
     renew: bool,
-    service: &[u8],
+    q: &[u8],
+    service: Value,
 ) -> Ruling
-    requires { ⌜ (Fine (now table)) × (In slot (now table)) ⌝ }
-    ensures { λ r. ⌜ r ≡ rulingOf validator renew (now (service .entry)) (saidAt slot (now (table .entry))) ⌝ }
+    requires { ⌜ (Fine (now table)) × (In slot (now table)) × (Readable false 200 (now q) service) ⌝ }
+    ensures { λ r. ⌜ r ≡ rulingOf validator renew (valueAt false (now (q .entry)) service) (saidAt slot (now (table .entry))) ⌝ }
 {
-    let its_own = text::same(table::text_of(table, slot), service);
+    let its_own = request::is_text(q, service, false, table::text_of(table, slot));
     if (table::kind_of(table, slot) == ticket::Proxy::KIND) & refuses_proxies(validator) {
         return Ruling::NoTicket;
     }

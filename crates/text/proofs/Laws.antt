@@ -6,14 +6,15 @@ use Prim.Native.Nat.{ℕ, compare·suc-suc, zero, suc, _+_, _-_, _/_, _%_, _≤_
 use native.Mathlib.Numerals.{sub-one}
 use native.Mathlib.Omega.{arith}
 use lib.Dec.{eqb, ltb}
-use lib.ListN.{length, drop, getD, set, length-replicate, drop-of-length-le}
+use lib.ListN.{length, take, drop, getD, set, length-drop, length-replicate, drop-of-length-le}
+use lib.Seq.{take-all}
 use borrow.Author.Tests.{eq-eqb, ne-eqb, lt-ltb, le-ltb}
-use Rattle.protocol.specs.Bytes.{if, same, holds, upTo, cutAt, zeros, digits, hexDigit, hex}
+use Rattle.protocol.specs.Bytes.{if, same, holds, upTo, cutAt, zeros, hexDigit, hex}
 use Rattle.protocol.specs.Answers.{escapedByte, escaped}
 use Rattle.protocol.specs.Written.{Wrote}
 use Rattle.protocol.proofs.Laws.{drop-step}
 use Rattle.text.specs.First.{FirstAt}
-use Rattle.text.proofs.Splice.{Left, left-room, left-start, left-put, left-byte, left-lt, left-done, wrote-byte, wrote-none}
+use Rattle.text.proofs.Splice.{Left, left-room, left-start, left-put, left-byte, left-lt, left-done, wrote-byte}
 
 -- the loop of `put_zeros`
 zeros-step : (n : ℕ) → 0 < n → zeros n ≡ 0 ∷ zeros (n - 1)
@@ -99,42 +100,6 @@ module _ (d s e : List ℕ) (at to i : ℕ) (l : Left d at (hex s) e to (hex (dr
   unfolding hex
   hex-done h = left-done (rw (drop-of-length-le s h) at l)
 
--- `put_digits`
-pub digits-none : (d : List ℕ) (at n k : ℕ) → k ≡ 0 → at + length (digits k n) ≤ length d → Wrote d at d at (digits k n)
-unfolding digits
-digits-none d at n k e h = let h₀ : at ≤ length d = omega arith in rw e (wrote-none d at h₀)
-
-digits-last : (n k : ℕ) → (k ≡ 0 → ⊥) → n < 10 → digits k n ≡ (48 + n) ∷ []
-unfolding digits
-digits-last n zero z h = absurd (z refl)
-digits-last n (suc k) z h = simp (lt-ltb n 10 h)
-
-digits-more : (n k : ℕ) → (k ≡ 0 → ⊥) → 10 ≤ n → digits k n ≡ digits (k - 1) (n / 10) ++ ((48 + n % 10) ∷ [])
-unfolding digits
-digits-more n zero z h = absurd (z refl)
-digits-more n (suc k) z h = simp (le-ltb n 10 h, sub-one)
-
-module _ (d : List ℕ) (at n k : ℕ) (z : k ≡ 0 → ⊥) (r : at + length (digits k n) ≤ length d) where
-  pub last-room : n < 10 → at < length d
-  last-room h = omega (arith, ap length (digits-last n k z h))
-
-  pub last-wrote : n < 10 → Wrote d at (set d at (48 + n)) (at + 1) (digits k n)
-  last-wrote h = rw (digits-last n k z h) (wrote-byte d at (48 + n) (last-room h))
-
-  module _ (h : 10 ≤ n) where
-    pub more-fits : at + length (digits (k - 1) (n / 10)) ≤ length d
-    more-fits = left-room (digits (k - 1) (n / 10)) _ (left-start d at (digits k n) r) (digits-more n k z h)
-
-    module _ (e : List ℕ) (to : ℕ) (w : Wrote d at e to (digits (k - 1) (n / 10))) where
-      so-far : Left d at (digits k n) e to ((48 + n % 10) ∷ [])
-      so-far = left-put _ (left-start d at (digits k n) r) (digits-more n k z h) w
-
-      pub more-room : to < length e
-      more-room = left-lt so-far (omega arith)
-
-      pub more-wrote : Wrote d at (set e to (48 + n % 10)) (to + 1) (digits k n)
-      more-wrote = left-done (left-byte [] so-far refl)
-
 -- the loop of `same`
 pub lengths-differ : (a b : List ℕ) → (length a ≡ length b → ⊥) → false ≡ same a b
 unfolding same
@@ -163,6 +128,10 @@ module _ (a b : List ℕ) (i : ℕ) (n : length a ≡ length b) (s : same (drop 
   same-done h =
       let k : length b ≤ i = omega arith in
       rw (drop-of-length-le a h, drop-of-length-le b k) at s
+
+-- what stands from a place on, as `&text[at..]` has it
+pub tail-part : (s : List ℕ) (at : ℕ) → take (length s - at) (drop at s) ≡ drop at s
+tail-part s at = take-all (length s - at) (drop at s) (omega (arith, length-drop at s))
 
 -- `first_at`: the length up to b is what was passed and what is left up to it
 module _ (s : List ℕ) (b i : ℕ) (inv : length (upTo b s) ≡ i + length (upTo b (drop i s))) where

@@ -1,3 +1,5 @@
--- Laws of writing, and of the loops that write and look.
+-- Laws of writing, of a text in pieces, and of the loops that write and look.
 pub mod Splice
+pub mod Pieces
 pub mod Laws
+pub mod Decimal

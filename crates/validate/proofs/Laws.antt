@@ -1,11 +1,9 @@
--- A validator's values are read as they are spoken of, and showing them is what protocol says. Assumes nothing.
+-- A validator's values are those that protocol speaks of, and showing them is what it says. Assumes nothing.
 use mathlib.Core.Path.{_≡_, refl, sym, ap, _∙_}
 use mathlib.Core.Bool.{Bool, true, false, _||_}
 use mathlib.Core.List.{List}
 use Prim.Native.Nat.{ℕ}
-use native.Mathlib.Omega.{arith}
 use lib.Dec.{eqb}
-use lib.ListN.{length, take}
 use Rattle.protocol.specs.Bytes.{isEmpty, same, among}
 use Rattle.protocol.specs.Records.{Rec}
 use Rattle.protocol.specs.Table.{Table, decodeTable, recAt}
@@ -13,7 +11,6 @@ use Rattle.protocol.specs.Register.{decodeRegister}
 use Rattle.protocol.specs.Request.{Read, Malformed, Given, Shown, shown, valueMost}
 use Rattle.protocol.specs.Answers.{InvalidRequest}
 use Rattle.protocol.specs.Steps.{Brought, remove, ticketSlot, failed, rulingOf, grants, grantOrTell, acceptTicket, ruled, presented, validate}
-use Rattle.protocol.specs.Written.{Wrote}
 use Rattle.protocol.specs.Held.{Said, Done, Lent, bringing}
 use Rattle.protocol.specs.declared.Outcome.{Outcome}
 use Rattle.protocol.specs.declared.Ruling.{Ruling}
@@ -21,27 +18,12 @@ use Rattle.protocol.specs.declared.Ruling.the-variants as ruling
 use Rattle.protocol.specs.declared.Validator.{Validator}
 use Rattle.protocol.proofs.Searches.{empty}
 use Rattle.protocol.proofs.Told.{only-said}
-use Rattle.text.proofs.Splice.{read-back}
-use Rattle.request.specs.Value.{valueAt}
+use Rattle.request.specs.Value.{valueAt, Readable}
 use Rattle.request.specs.Spelled.{spelledShown, ShownFits, ShownIn}
 use Rattle.request.specs.declared.Value.{Value}
 use Rattle.request.specs.declared.ValidatorQuery.{ValidatorQuery}
 use Rattle.request.specs.declared.ValidatorQuery.the-variants as query
-use Rattle.present.specs.Brings.{Brings}
-use Rattle.validate.specs.Given.{Values}
-
--- Values that were read at their places
-
-module _ (q : List ℕ) (s t u : Value) (w : Values q s t u) (b g random o : List ℕ) (h : Lent b g random o) where
-  pub show-ready : (z z′ : List ℕ) (m : ℕ) → Wrote z 0 z′ m (valueAt false q u) → Brings b g (take m z′) random o
-  show-ready z z′ m k =
-      record { lawful = h .lawful; register = h .panels; short = rw (read-back z z′ (valueAt false q u) m k) (omega (arith, w .url .long, w .url .fits)); drawn = h .drawn; room = h .room }
-
-pub shown-done : (v : Validator) (q : List ℕ) (s t u : Value) (renew : Bool) (b g random o x x′ y y′ z z′ : List ℕ) (l m n : ℕ) → Wrote x 0 x′ l (valueAt false q t) → Wrote y 0 y′ m (valueAt false q s) → Wrote z 0 z′ n (valueAt false q u)
-    → (b′ o′ : List ℕ) (r : Outcome) → Done (presented v (ticketSlot (take l x′) (decodeTable b)) renew (take m y′) (take n z′) (bringing g random) (decodeTable b)) r b′ o o′
-    → Done (presented v (ticketSlot (valueAt false q t) (decodeTable b)) renew (valueAt false q s) (valueAt false q u) (bringing g random) (decodeTable b)) r b′ o o′
-shown-done v q s t u renew b g random o x x′ y y′ z z′ l m n i j k b′ o′ r d =
-    rw (read-back x x′ (valueAt false q t) l i, read-back y y′ (valueAt false q s) m j, read-back z z′ (valueAt false q u) n k) at d
+use Rattle.present.specs.Presented.{Values}
 
 -- By what was read: a service and a ticket must be there
 
@@ -53,15 +35,22 @@ module _ (v : Validator) (q : List ℕ) (x : ValidatorQuery) (k : ShownIn v q x)
       rw (sym m) (only-said (h .lawful .fine) d)
 
   module _ (s t : Value) (renew : Bool) (u : Value) (e : x ≡ query.Given s t renew u) where
-    pub values-in : Values q s t u
+    fits : ShownFits q (query.Given s t renew u)
+    fits = rw e at (k .fits)
+
+    pub values-in : Values q s u
     unfolding valueMost among same
-    values-in = let f : ShownFits q (query.Given s t renew u) = rw e at (k .fits) in record { service = f .0; ticket = f .1; url = f .2 }
+    values-in = record { service = fits .0; url = fits .2 }
+
+    pub ticket-in : Readable false 64 q t
+    unfolding valueMost among same
+    ticket-in = fits .1
 
     asks : Given (record { service = valueAt false q s; ticket = valueAt false q t; renew = renew; pgtUrl = valueAt false q u }) ≡ shown v q
     asks = sym (ap (spelledShown q) e) ∙ k .spells
 
     lacks : isEmpty (valueAt false q s) || isEmpty (valueAt false q t) ≡ eqb (s .length) 0 || eqb (t .length) 0
-    lacks = rw (empty (valueAt false q s) (s .length) (values-in .service .long), empty (valueAt false q t) (t .length) (values-in .ticket .long))
+    lacks = rw (empty (valueAt false q s) (s .length) (values-in .service .long), empty (valueAt false q t) (t .length) (ticket-in .long))
 
     module _ (b g random o b′ o′ : List ℕ) (r : Outcome) where
       pub as-absent : eqb (s .length) 0 || eqb (t .length) 0 ≡ true → Lent b g random o → Said (failed v InvalidRequest) r o o′ → Done (validate v (shown v q) (bringing g random) (decodeTable b)) r b o o′

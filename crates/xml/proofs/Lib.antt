@@ -1,2 +1,2 @@
--- Laws of the texts that templates give, and of a success in parts.
+-- Laws of the texts of XML in parts.
 pub mod Texts

@@ -1,3 +1,4 @@
--- The codes of the code, and the parts of a success.
+-- The codes of the code, the parts of a response, and those of a success.
 pub mod Codes
+pub mod Response
 pub mod Success

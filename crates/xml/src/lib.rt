@@ -1,12 +1,14 @@
 // Bytes out: XML. Failures and proxy tickets are written from the start of the output; a success in parts, since its proxies
-// are told by a walk from grant to parent. The rest of the output is left as it was.
+// are told by a walk from grant to parent. The rest of the output is left as it was. A text is put in pieces by small functions:
+// the literals of functions that are called one after the other take the same place of the stack.
 ghost use Prim.Native.Nat.{_≤_};
 ghost use lib.ListN.{length};
-ghost use Rattle.protocol.specs.Answers.{replyText, failureText, codeText, markText, attributesText, Failure, ProxySuccess, ProxyFailure};
+ghost use Rattle.protocol.specs.Answers.{replyText, codeText, markText, Failure, ProxySuccess, ProxyFailure};
 ghost use Rattle.protocol.specs.Table.{lastTime};
 ghost use Rattle.protocol.specs.Written.{Room, Wrote};
 ghost use Rattle.xml.specs.Codes.{codeOf};
-ghost use Rattle.xml.specs.Success.{successUser, attributesClose, iouLine, successHead, successTail, proxiesOpen, proxiesClose, proxyLine};
+ghost use Rattle.xml.specs.Response.{responseOpen, responseClose, failureOpen, codeTwice, failureClose, failureParts, proxyTicket};
+ghost use Rattle.xml.specs.Success.{successUser, datePart, tokenLine, loginPart, attributeParts, iouLine, successHead, successTail, proxiesOpen, proxiesClose, proxyLine};
 
 // Why a ticket is not accepted.
 pub enum Code {
@@ -18,41 +20,88 @@ pub enum Code {
     InternalError,
 }
 
+// The outer element begins every answer.
+fn put_open(out: &mut [u8]) -> usize
+    requires { ⌜ Room (now out) 0 responseOpen ⌝ }
+    ensures { λ r. ⌜ Wrote (now (out .entry)) 0 (now (out .exit)) r responseOpen ⌝ }
+{
+    text::put_bytes(
+        out,
+        0,
+        b"<cas:serviceResponse xmlns:cas=\"http://www.yale.edu/tp/cas\">\n",
+    )
+}
+
+fn put_close(out: &mut [u8], at: usize) -> usize
+    requires { ⌜ Room (now out) at responseClose ⌝ }
+    ensures { λ r. ⌜ Wrote (now (out .entry)) at (now (out .exit)) r responseClose ⌝ }
+{
+    text::put_bytes(out, at, b"</cas:serviceResponse>\n")
+}
+
+fn put_proxy_ticket(out: &mut [u8], at: usize, ticket: &[u8]) -> usize
+    requires { ⌜ Room (now out) at (proxyTicket (now ticket)) ⌝ }
+    ensures { λ r. ⌜ Wrote (now (out .entry)) at (now (out .exit)) r (proxyTicket (now (ticket .entry))) ⌝ }
+{
+    let name = text::put_bytes(out, at, b"  <cas:proxySuccess>\n    <cas:proxyTicket>");
+    let to = text::put_bytes(out, name, ticket);
+    text::put_bytes(out, to, b"</cas:proxyTicket>\n  </cas:proxySuccess>\n")
+}
+
 pub fn put_proxy_success(out: &mut [u8], ticket: &[u8]) -> usize
     requires { ⌜ 8192 ≤ length (now out) ⌝ }
     requires { ⌜ length (now ticket) ≤ 64 ⌝ }
     ensures { λ r. ⌜ Wrote (now (out .entry)) 0 (now (out .exit)) r (replyText (ProxySuccess (now (ticket .entry)))) ⌝ }
 {
-    template::put_template(
-        out,
-        0,
-        b"<cas:serviceResponse xmlns:cas=\"http://www.yale.edu/tp/cas\">\n  <cas:proxySuccess>\n    <cas:proxyTicket>{</cas:proxyTicket>\n  </cas:proxySuccess>\n</cas:serviceResponse>\n",
-        0,
-        ticket,
-        b"",
-        b"",
-    )
+    let open = put_open(out);
+    let told = put_proxy_ticket(out, open, ticket);
+    put_close(out, told)
 }
 
-// A failure's element and its code, which is its message again.
-fn put_failure_of(out: &mut [u8], element: &[u8], code: &[u8]) -> usize
-    requires { ⌜ Room (now out) 0 (failureText (now element) (now code)) ⌝ }
-    ensures { λ r. ⌜ Wrote (now (out .entry)) 0 (now (out .exit)) r (failureText (now (element .entry)) (now (code .entry))) ⌝ }
+// A failure's element, up to its code.
+fn put_failure_open(out: &mut [u8], at: usize, element: &[u8]) -> usize
+    requires { ⌜ Room (now out) at (failureOpen (now element)) ⌝ }
+    ensures { λ r. ⌜ Wrote (now (out .entry)) at (now (out .exit)) r (failureOpen (now (element .entry))) ⌝ }
 {
-    template::put_template(
-        out,
-        0,
-        b"<cas:serviceResponse xmlns:cas=\"http://www.yale.edu/tp/cas\">\n  <cas:{ code=\"|\">\n    |\n  </cas:{>\n</cas:serviceResponse>\n",
-        0,
-        element,
-        code,
-        b"",
-    )
+    let name = text::put_bytes(out, at, b"  <cas:");
+    let to = text::put_bytes(out, name, element);
+    text::put_bytes(out, to, b" code=\"")
+}
+
+// The code, and again as the message.
+fn put_code(out: &mut [u8], at: usize, code: &[u8]) -> usize
+    requires { ⌜ Room (now out) at (codeTwice (now code)) ⌝ }
+    ensures { λ r. ⌜ Wrote (now (out .entry)) at (now (out .exit)) r (codeTwice (now (code .entry))) ⌝ }
+{
+    let coded = text::put_bytes(out, at, code);
+    let message = text::put_bytes(out, coded, b"\">\n    ");
+    let to = text::put_bytes(out, message, code);
+    text::put_bytes(out, to, b"\n")
+}
+
+fn put_failure_close(out: &mut [u8], at: usize, element: &[u8]) -> usize
+    requires { ⌜ Room (now out) at (failureClose (now element)) ⌝ }
+    ensures { λ r. ⌜ Wrote (now (out .entry)) at (now (out .exit)) r (failureClose (now (element .entry))) ⌝ }
+{
+    let name = text::put_bytes(out, at, b"  </cas:");
+    let to = text::put_bytes(out, name, element);
+    text::put_bytes(out, to, b">\n")
+}
+
+fn put_failure_of(out: &mut [u8], element: &[u8], code: &[u8]) -> usize
+    requires { ⌜ Room (now out) 0 (failureParts (now element) (now code)) ⌝ }
+    ensures { λ r. ⌜ Wrote (now (out .entry)) 0 (now (out .exit)) r (failureParts (now (element .entry)) (now (code .entry))) ⌝ }
+{
+    let open = put_open(out);
+    let named = put_failure_open(out, open, element);
+    let told = put_code(out, named, code);
+    let to = put_failure_close(out, told, element);
+    put_close(out, to)
 }
 
 fn put_failure_by(out: &mut [u8], element: &[u8], code: Code) -> usize
-    requires { ⌜ Room (now out) 0 (failureText (now element) (codeText (codeOf code))) ⌝ }
-    ensures { λ r. ⌜ Wrote (now (out .entry)) 0 (now (out .exit)) r (failureText (now (element .entry)) (codeText (codeOf code))) ⌝ }
+    requires { ⌜ Room (now out) 0 (failureParts (now element) (codeText (codeOf code))) ⌝ }
+    ensures { λ r. ⌜ Wrote (now (out .entry)) 0 (now (out .exit)) r (failureParts (now (element .entry)) (codeText (codeOf code))) ⌝ }
 {
     match code {
         Code::InvalidRequest => put_failure_of(out, element, b"INVALID_REQUEST"),
@@ -84,36 +133,51 @@ fn put_user(out: &mut [u8], user: &[u8]) -> usize
     requires { ⌜ Room (now out) 0 (successUser (now user)) ⌝ }
     ensures { λ r. ⌜ Wrote (now (out .entry)) 0 (now (out .exit)) r (successUser (now (user .entry))) ⌝ }
 {
-    template::put_template(
+    let open = put_open(out);
+    let name = text::put_bytes(out, open, b"  <cas:authenticationSuccess>\n    <cas:user>");
+    let to = text::put_escaped(out, name, user);
+    text::put_bytes(out, to, b"</cas:user>\n")
+}
+
+// The attributes, the first of them the date.
+fn put_since(out: &mut [u8], at: usize, since: u64) -> usize
+    requires { ⌜ Room (now out) at (datePart since) ⌝ }
+    requires { ⌜ since ≤ lastTime ⌝ }
+    ensures { λ r. ⌜ Wrote (now (out .entry)) at (now (out .exit)) r (datePart since) ⌝ }
+{
+    let date = text::put_bytes(
         out,
-        0,
-        b"<cas:serviceResponse xmlns:cas=\"http://www.yale.edu/tp/cas\">\n  <cas:authenticationSuccess>\n    <cas:user>[</cas:user>\n",
-        0,
-        user,
-        b"",
-        b"",
+        at,
+        b"    <cas:attributes>\n      <cas:authenticationDate>",
+    );
+    let to = calendar::put_date(out, date, since);
+    text::put_bytes(out, to, b"</cas:authenticationDate>\n")
+}
+
+fn put_token(out: &mut [u8], at: usize) -> usize
+    requires { ⌜ Room (now out) at tokenLine ⌝ }
+    ensures { λ r. ⌜ Wrote (now (out .entry)) at (now (out .exit)) r tokenLine ⌝ }
+{
+    text::put_bytes(
+        out,
+        at,
+        b"      <cas:longTermAuthenticationRequestTokenUsed>false</cas:longTermAuthenticationRequestTokenUsed>\n",
     )
 }
 
-// The attributes behind the date, the last of them `true` or `false`.
+// The last attribute, `true` or `false`.
 fn put_word(out: &mut [u8], at: usize, word: &[u8]) -> usize
-    requires { ⌜ Room (now out) at (attributesClose (now word)) ⌝ }
-    ensures { λ r. ⌜ Wrote (now (out .entry)) at (now (out .exit)) r (attributesClose (now (word .entry))) ⌝ }
+    requires { ⌜ Room (now out) at (loginPart (now word)) ⌝ }
+    ensures { λ r. ⌜ Wrote (now (out .entry)) at (now (out .exit)) r (loginPart (now (word .entry))) ⌝ }
 {
-    template::put_template(
-        out,
-        at,
-        b"</cas:authenticationDate>\n      <cas:longTermAuthenticationRequestTokenUsed>false</cas:longTermAuthenticationRequestTokenUsed>\n      <cas:isFromNewLogin>{</cas:isFromNewLogin>\n    </cas:attributes>\n",
-        0,
-        word,
-        b"",
-        b"",
-    )
+    let value = text::put_bytes(out, at, b"      <cas:isFromNewLogin>");
+    let to = text::put_bytes(out, value, word);
+    text::put_bytes(out, to, b"</cas:isFromNewLogin>\n    </cas:attributes>\n")
 }
 
 fn put_mark(out: &mut [u8], at: usize, mark: u8) -> usize
-    requires { ⌜ Room (now out) at (attributesClose (markText mark)) ⌝ }
-    ensures { λ r. ⌜ Wrote (now (out .entry)) at (now (out .exit)) r (attributesClose (markText mark)) ⌝ }
+    requires { ⌜ Room (now out) at (loginPart (markText mark)) ⌝ }
+    ensures { λ r. ⌜ Wrote (now (out .entry)) at (now (out .exit)) r (loginPart (markText mark)) ⌝ }
 {
     if mark == 0 {
         return put_word(out, at, b"false");
@@ -122,16 +186,12 @@ fn put_mark(out: &mut [u8], at: usize, mark: u8) -> usize
 }
 
 fn put_attributes(out: &mut [u8], at: usize, since: u64, mark: u8) -> usize
-    requires { ⌜ Room (now out) at (attributesText since mark) ⌝ }
+    requires { ⌜ Room (now out) at (attributeParts since mark) ⌝ }
     requires { ⌜ since ≤ lastTime ⌝ }
-    ensures { λ r. ⌜ Wrote (now (out .entry)) at (now (out .exit)) r (attributesText since mark) ⌝ }
+    ensures { λ r. ⌜ Wrote (now (out .entry)) at (now (out .exit)) r (attributeParts since mark) ⌝ }
 {
-    let date = text::put_bytes(
-        out,
-        at,
-        b"    <cas:attributes>\n      <cas:authenticationDate>",
-    );
-    let to = calendar::put_date(out, date, since);
+    let dated = put_since(out, at, since);
+    let to = put_token(out, dated);
     put_mark(out, to, mark)
 }
 
@@ -143,15 +203,9 @@ fn put_iou(out: &mut [u8], at: usize, iou: &[u8]) -> usize
     if iou.len() == 0 {
         return at;
     }
-    template::put_template(
-        out,
-        at,
-        b"    <cas:proxyGrantingTicket>[</cas:proxyGrantingTicket>\n",
-        0,
-        iou,
-        b"",
-        b"",
-    )
+    let value = text::put_bytes(out, at, b"    <cas:proxyGrantingTicket>");
+    let to = text::put_escaped(out, value, iou);
+    text::put_bytes(out, to, b"</cas:proxyGrantingTicket>\n")
 }
 
 // Success, up to the proxies: the user, the attributes, and the IOU if it is not empty.
@@ -179,15 +233,9 @@ pub fn put_proxy(out: &mut [u8], at: usize, callback: &[u8]) -> usize
     requires { ⌜ Room (now out) at (proxyLine (now callback)) ⌝ }
     ensures { λ r. ⌜ Wrote (now (out .entry)) at (now (out .exit)) r (proxyLine (now (callback .entry))) ⌝ }
 {
-    template::put_template(
-        out,
-        at,
-        b"      <cas:proxy>[</cas:proxy>\n",
-        0,
-        callback,
-        b"",
-        b"",
-    )
+    let value = text::put_bytes(out, at, b"      <cas:proxy>");
+    let to = text::put_escaped(out, value, callback);
+    text::put_bytes(out, to, b"</cas:proxy>\n")
 }
 
 pub fn put_proxies_close(out: &mut [u8], at: usize) -> usize

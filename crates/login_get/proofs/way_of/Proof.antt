@@ -7,5 +7,5 @@ use Rattle.login_get.proofs.way_of.Tie as tie
 pub way-of-spec : {M : Type 1} → statement M
 way-of-spec =
     tie.close
-    (tie.spec (λ c κs. search needs) (λ c. search way-unknown) (λ c. search way-renew) (λ c κs. search needs) (search needs) (λ c. search way-signed)
+    (tie.spec (λ c. search way-unknown) (λ c. search way-renew) (λ c κs. search needs) (search needs) (λ c. search way-signed)
     (search needs) (λ c. search way-none) (λ c. search way-away) (λ c. search way-form))

@@ -1,4 +1,4 @@
--- Malformed, or judged and decoded.
+-- Malformed, or left as it is read.
 use borrow.Author.Needs.{needs}
 use Rattle.logout.proofs.Laws.{refused, answered, url-readable}
 use Rattle.logout.proofs.logout.Statement.{statement}

@@ -7,4 +7,4 @@ use Rattle.present.proofs.may_grant.Tie as tie
 pub may-grant-spec : {M : Type 1} → statement M
 may-grant-spec =
     tie.close
-    (tie.spec (λ c κs. search needs) (λ c κs. search needs) (λ c κs. search needs) (λ c κs. search needs) (λ c. search (needs, grant-tests)))
+    (tie.spec (λ c κs. search needs) (λ c κs. search needs) (λ c κs. search needs) (λ c. search (needs, grant-tests)))

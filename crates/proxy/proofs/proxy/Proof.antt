@@ -1,4 +1,4 @@
--- Malformed, absent, or read and decoded.
+-- Malformed, absent, or asked as it is read.
 use borrow.Author.Needs.{needs}
 use Rattle.proxy.proofs.Laws.{proxy-refused, values-in, absent, answered}
 use Rattle.proxy.proofs.proxy.Statement.{statement}

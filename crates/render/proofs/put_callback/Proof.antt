@@ -7,5 +7,4 @@ use Rattle.render.proofs.put_callback.Tie as tie
 pub put-callback-spec : {M : Type 1} → statement M
 put-callback-spec =
     tie.close
-    (tie.spec (λ c κs. search (needs, url-room)) (search needs) (search needs) (λ c κs. search (needs, grant-room)) (search needs)
-    (λ c. search (needs, callback-wrote)))
+    (tie.spec (λ c κs. search (needs, url-room)) (λ c κs. search (needs, grant-room)) (search needs) (λ c. search (needs, callback-wrote)))

@@ -1,12 +1,11 @@
--- An address and its mark: the template with `&` or `?`.
+-- An address and its mark, `&` or `?`.
 use borrow.Author.Needs.{needs}
-use Rattle.render.proofs.Texts.{and-room, and-wrote, ask-room, ask-wrote}
+use Rattle.render.proofs.Texts.{address-room, and-room, and-wrote, ask-room, ask-wrote}
 use Rattle.render.proofs.put_marked.Statement.{statement}
 use Rattle.render.proofs.put_marked.Tie as tie
 
 pub put-marked-spec : {M : Type 1} → statement M
 put-marked-spec =
     tie.close
-    (tie.spec (search needs) (search needs) (search needs) (search needs) (λ c κs. search (needs, and-room)) (search needs)
-    (λ c. search (needs, and-wrote)) (search needs) (search needs) (search needs) (λ c κs. search (needs, ask-room)) (search needs)
-    (λ c. search (needs, ask-wrote)))
+    (tie.spec (λ c κs. search (needs, address-room)) (search needs) (search needs) (λ c κs. search (needs, and-room)) (search needs)
+    (λ c. search (needs, and-wrote)) (search needs) (λ c κs. search (needs, ask-room)) (search needs) (λ c. search (needs, ask-wrote)))

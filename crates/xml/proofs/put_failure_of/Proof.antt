@@ -1,10 +1,13 @@
--- A failure: its template with element and code.
+-- A failure, in its parts.
 use borrow.Author.Needs.{needs}
-use Rattle.xml.proofs.Texts.{failure-of-room, failure-of-wrote}
+use Rattle.text.proofs.Pieces.{piece-1, piece-2, piece-3, piece-4, piece-5, five-pieces}
+use Rattle.xml.specs.Response.{failureParts}
 use Rattle.xml.proofs.put_failure_of.Statement.{statement}
 use Rattle.xml.proofs.put_failure_of.Tie as tie
 
 pub put-failure-of-spec : {M : Type 1} → statement M
+unfolding failureParts
 put-failure-of-spec =
     tie.close
-    (tie.spec (search needs) (search needs) (λ c κs. search (needs, failure-of-room)) (search needs) (λ c. search (needs, failure-of-wrote)))
+    (tie.spec (λ c κs. search piece-1) (λ c κs. search piece-2) (λ c κs. search piece-3) (λ c κs. search piece-4) (λ c κs. search piece-5)
+    (search needs) (λ c. search five-pieces))

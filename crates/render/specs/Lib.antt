@@ -1,0 +1,2 @@
+-- The parts of pages and addresses.
+pub mod Parts

@@ -1,2 +1,0 @@
--- Templates.
-pub mod Template

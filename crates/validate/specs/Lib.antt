@@ -1,2 +1,0 @@
--- What was read of a validator's request.
-pub mod Given

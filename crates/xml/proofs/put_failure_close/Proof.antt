@@ -1,0 +1,13 @@
+-- The end of a failure's element, in pieces.
+use borrow.Author.Needs.{needs}
+use Rattle.text.proofs.Pieces.{piece-1, piece-2, piece-3, last-piece, more-pieces}
+use Rattle.xml.specs.Response.{failureClose}
+use Rattle.xml.proofs.put_failure_close.Statement.{statement}
+use Rattle.xml.proofs.put_failure_close.Tie as tie
+
+pub put-failure-close-spec : {M : Type 1} → statement M
+unfolding failureClose
+put-failure-close-spec =
+    tie.close
+    (tie.spec (search needs) (λ c κs. search piece-1) (λ c κs. search piece-2) (search needs) (λ c κs. search piece-3) (search needs)
+    (λ c. search (last-piece, more-pieces)))

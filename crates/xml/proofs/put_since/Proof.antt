@@ -1,0 +1,13 @@
+-- The date's attribute, in pieces.
+use borrow.Author.Needs.{needs}
+use Rattle.text.proofs.Pieces.{piece-1, piece-2, piece-3, last-piece, more-pieces}
+use Rattle.xml.specs.Success.{datePart}
+use Rattle.xml.proofs.put_since.Statement.{statement}
+use Rattle.xml.proofs.put_since.Tie as tie
+
+pub put-since-spec : {M : Type 1} → statement M
+unfolding datePart
+put-since-spec =
+    tie.close
+    (tie.spec (search needs) (λ c κs. search piece-1) (λ c κs. search piece-2) (search needs) (λ c κs. search piece-3) (search needs)
+    (λ c. search (last-piece, more-pieces)))
