@@ -9,7 +9,7 @@ use lib.Dec.{lit≤}
 use lib.ListN.{length, take, drop, getD, length-append, length-take, length-drop, length-replicate, drop-of-length-le, List·getD-eq-default}
 use lib.Seq.{drop-cons, take-at, drop-at, length-take-le}
 use Rattle.protocol.specs.Bytes.{part, num, bytesOf, zeros, padTo, spliced}
-use Rattle.protocol.specs.Blocks.{checkFrom, houseCheck, sealed}
+use Rattle.protocol.specs.Blocks.{houseCheck, sealed}
 use Rattle.protocol.specs.Records.{Rec, freeRec, recBody, encodeRec, decodeRec}
 use Rattle.protocol.specs.Table.{tableOf, headBody, decodeTable, recAt, countKind, lastTime}
 use Rattle.protocol.specs.Steps.{put, remove, turned}
@@ -21,6 +21,7 @@ use Rattle.block.proofs.Lay.{laid-first, laid-next, lent, front}
 use Rattle.protocol.proofs.Held.{slot-of, block-of, fits-of, laid-rec, laid-head}
 use Rattle.table.specs.declared.Fields.{Fields}
 use Rattle.table.specs.Parts.{Block, Bit, fieldsOf, recOf, numbersOf, textsOf, turnedBytes}
+use Rattle.table.proofs.Free.{free-bytes}
 
 -- Reading
 
@@ -202,11 +203,11 @@ record-filled f x t i s g hx ht hi e3 e2 e1 =
     e3 ∙ ap sealed (front p2 ∙ body-of f x t i hx hi)
 
 pub free-filled : (s : List ℕ) {l1 l2 : List ℕ} → length s ≡ 512 → l2 ≡ spliced l1 508 (bytesOf 4 33292289) → l1 ≡ spliced s 0 (zeros 508) → l2 ≡ encodeRec freeRec
-unfolding encodeRec sealed recBody bytesOf houseCheck checkFrom spliced
+unfolding bytesOf spliced
 free-filled s g e2 e1 =
     let p1 = laid-first s 512 0 (zeros 508) 508 g refl e1 in
     let p2 = laid-next p1 (bytesOf 4 33292289) 4 refl (lit≤ tt) e2 in
-    p2 .eq ∙ rw (drop-of-length-le s {i = 512} (omega arith))
+    p2 .eq ∙ rw (drop-of-length-le s {i = 512} (omega arith), free-bytes)
 
 pub head-filled : (n c x : ℕ) (s : List ℕ) {l1 l2 l3 l4 l5 l6 l7 : List ℕ} → length s ≡ 512
     → l7 ≡ sealed (take 508 l6)

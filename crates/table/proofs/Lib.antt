@@ -1,2 +1,3 @@
 -- Laws of the table's leaves.
 pub mod Laws
+pub mod Free

@@ -1,6 +1,6 @@
 -- Slots of the table's bytes, one after the other, as the code meets them. Assumes nothing.
 use mathlib.Core.Path.{_≡_, refl, sym, ap, _∙_}
-use mathlib.Core.Bool.{Bool, true, false, _&&_, not, _||_}
+use mathlib.Core.Bool.{Bool, true, false, _&&_, not, _||_, and-true}
 use mathlib.Core.List.{List, [], _∷_}
 use Prim.Native.Nat.{ℕ, suc, _+_, _-_, _*_, _<_, _≤_}
 use native.Mathlib.Numerals.{add-one}
@@ -13,6 +13,7 @@ use Rattle.protocol.specs.Bytes.{if, part}
 use Rattle.protocol.specs.Blocks.{checkRight}
 use Rattle.protocol.specs.Records.{Rec, freeRec}
 use Rattle.protocol.specs.Table.{decodeTable, recAt, serialTaken, sessionRight, parentRight, grantRight}
+use Rattle.protocol.proofs.Laws.{and-false}
 use Rattle.protocol.proofs.Places.{slots-count}
 use Rattle.protocol.specs.Held.{In, saidAt}
 use Rattle.table.specs.declared.Fields.{Fields}
@@ -24,9 +25,13 @@ use Rattle.table_judge.specs.Tests.{fromSlot, sessionTest, parentTest, h
 pub slot-in : (b : List ℕ) (n k : ℕ) → length b ≡ 512 * n → 1 ≤ k → k < n → In k b
 slot-in b n k h l g = record { low = l; high = omega arith }
 
--- two fields of a slot
-pub serial-said : (r : Rec) (serial : ℕ) {k s : ℕ} → k ≡ r .kind → s ≡ r .serial → not (eqb k 0) && eqb s serial ≡ hasSerial serial r
-serial-said r serial e f = rw (e, f)
+-- the serial of a slot, and whether it is held
+module _ (r : Rec) (serial : ℕ) {s : ℕ} (e : s ≡ r .serial) where
+  pub serial-other : (s ≡ serial → ⊥) → false ≡ hasSerial serial r
+  serial-other z = sym (rw (ne-eqb (r .serial) serial (λ x. z (e ∙ x))) (and-false (not (eqb (r .kind) 0))))
+
+  pub serial-own : {k : ℕ} → s ≡ serial → k ≡ r .kind → not (eqb k 0) ≡ hasSerial serial r
+  serial-own {k} z f = rw (f, eq-eqb (r .serial) serial (sym e ∙ z)) (sym (and-true (not (eqb (r .kind) 0))))
 
 -- a record beside what it names
 pub session-right : (f s : Fields) {l r : Bool} → l ≡ if (eqb (f .kind) 6 || eqb (f .kind) 7) (eqb (f .expiry) (s .expiry)) (leb (f .expiry) (s .expiry))

@@ -13,16 +13,17 @@ use lib.Seq.{take-take}
 use Rattle.protocol.specs.Bytes.{same, part, num, bytesOf}
 use Rattle.protocol.specs.Blocks.{checkRight, sealed}
 use Rattle.protocol.specs.Tickets.{aFree, aLogin}
-use Rattle.protocol.specs.Records.{Rec, freeRec, recBody, encodeRec, decodeRec, ownRight}
-use Rattle.protocol.specs.Table.{headBody, decodeTable, countKind, serialTaken, serialsDiffer, sessionRight, parentRight, tableLawful, loginCap, lastTime}
-use Rattle.protocol.proofs.Laws.{both, both5, same-eq, same-refl, recRight, Rules, rules, rules-hold, sized-read, length-body, part-long, lawful-bytes, lawful-fits, lawful-clock, lawful-rules, one-test}
+use Rattle.protocol.specs.Records.{Rec, freeRec, encodeRec}
+use Rattle.protocol.specs.Table.{headBody, decodeTable, countKind, serialTaken, serialsDiffer, tableLawful, loginCap, lastTime}
+use Rattle.protocol.proofs.Laws.{both, same-eq, same-refl, recRight, Rules, rules, rules-hold, part-long, lawful-bytes, lawful-fits, lawful-clock, lawful-rules, one-test}
 use Rattle.protocol.proofs.Places.{head-bytes, slots-count, lawful-by-blocks, block-lawful}
 use Rattle.protocol.proofs.Held.{slot-of}
 use Rattle.protocol.proofs.Kept.{free-right, right-all, right-slot}
 use Rattle.block.proofs.Bytewise.{part-bytes, sealed-test, Bytes}
-use Rattle.protocol.specs.Held.{saidAt}
+use Rattle.protocol.specs.Held.{In}
 use Rattle.table_rules.specs.Tests.{headRight}
 use Rattle.table_judge.specs.Tests.{blockAt, aloneAt, slotRight, allFrom, judged}
+use Rattle.table_judge.proofs.Blocks.{Told, told, made}
 
 -- Slots, all and each
 
@@ -92,46 +93,8 @@ module _ (b : List ℕ) (m : ℕ) (h : length b ≡ 512 * m + 512) (few : m ≤ 
   head-test : same (take 508 b) head && checkRight (blockAt 0 b) ≡ same (blockAt 0 b) (sealed head)
   head-test = rw (take-take 508 512 b (lit≤ tt)) at (sealed-test (blockAt 0 b) head (block-long 0 (omega arith)) (block-bytes 0 (omega arith)) head-long)
 
-  -- a slot's tests are its block's, and the rules
-  module _ (k : ℕ) (g : k < m) where
-    abbrev r : Rec
-    r = saidAt (suc k) b
-
-    said : r ≡ decodeRec (blockAt (suc k) b)
-    said = slot-of b (suc k) (record { low = omega arith; high = omega arith })
-
-    slot-test : ownRight clock next r ≡ true → same (take 508 (blockAt (suc k) b)) (recBody r) && checkRight (blockAt (suc k) b) ≡ same (blockAt (suc k) b) (encodeRec r)
-    unfolding encodeRec
-    slot-test e =
-        let l = block-long (suc k) (omega arith) in
-        let z = sized-read clock next (blockAt (suc k) b) l (rw said at e) in
-        let n : length (recBody r) ≡ 508 = rw said (length-body (decodeRec (blockAt (suc k) b)) z) in
-        sealed-test (blockAt (suc k) b) (recBody r) l (block-bytes (suc k) (omega arith)) n
-
-    record Told : Type 0 where
-      rule : recRight clock next slots r ≡ true
-      block : blockAt (suc k) b ≡ encodeRec r
-      lone : alone slots k ≡ true
-
-    told : slotRight clock next b (suc k) ≡ true → Told
-    unfolding slotRight
-    told e =
-        let t = both5 (ownRight clock next r && same (take 508 (blockAt (suc k) b)) (recBody r)) (sessionRight slots r) (parentRight slots r) (checkRight (blockAt (suc k) b)) (aloneAt (suc k) b) e in
-        let o = both (ownRight clock next r) (same (take 508 (blockAt (suc k) b)) (recBody r)) (t .0) in
-        record {
-          rule = rw (o .0, t .1, t .2);
-          block = same-eq (blockAt (suc k) b) (encodeRec r) (sym (slot-test (o .0)) ∙ rw (o .1, t .3));
-          lone = sym (alone-slot b k) ∙ t .4;
-        }
-
-    made : Told → slotRight clock next b (suc k) ≡ true
-    unfolding slotRight
-    made t =
-        let p = both (ownRight clock next r && sessionRight slots r) (parentRight slots r) (t .rule) in
-        let q = both (ownRight clock next r) (sessionRight slots r) (p .0) in
-        let s : same (blockAt (suc k) b) (encodeRec r) ≡ true = rw (t .block) (same-refl (encodeRec r)) in
-        let w = both (same (take 508 (blockAt (suc k) b)) (recBody r)) (checkRight (blockAt (suc k) b)) (slot-test (q .0) ∙ s) in
-        rw (q .0, w .0, q .1, p .1, w .1, alone-slot b k, t .lone)
+  slot : (k : ℕ) → k < m → In (suc k) b
+  slot k g = record { low = omega arith; high = omega arith }
 
   -- bytes that pass are lawful
   forth : judged b ≡ true → tableLawful b ≡ true
@@ -145,13 +108,13 @@ module _ (b : List ℕ) (m : ℕ) (h : length b ≡ 512 * m + 512) (few : m ≤ 
       let d = both (leb clock lastTime) (same (take 508 b) (headBody (length b / 512 - 1) clock next)) (p .0) in
       let w : same (take 508 b) head ≡ true = rw count at (d .1) in
       let all : allFrom (slotRight clock next b) 1 m ≡ true = rw count at (s .1) in
-      let each : (k : ℕ) (g : k < m) → Told k g = λ k g. told k g (all-told (slotRight clock next b) 1 m all (suc k) (omega arith) (omega arith)) in
+      let each : (k : ℕ) (g : k < m) → Told clock next b (suc k) (slot k g) y = λ k g. told clock next b (suc k) (slot k g) y (all-told (slotRight clock next b) 1 m all (suc k) (omega arith) (omega arith)) in
       let n : length slots ≡ m = slots-count b ∙ count in
-      lawful-by-blocks b m h (same-eq (blockAt 0 b) (sealed head) (sym head-test ∙ rw (w, s .0))) (λ k g. each k g .block ∙ ap encodeRec (said k g))
+      lawful-by-blocks b m h (same-eq (blockAt 0 b) (sealed head) (sym head-test ∙ rw (w, s .0))) (λ k g. each k g .block ∙ ap encodeRec (slot-of b (suc k) (slot k g)))
       (rules-hold (decodeTable b) (record {
         clock = leb-true clock lastTime (d .0);
         records = right-all clock next slots slots (λ k. by-place k n (λ g. each k g .rule) (decLt k m));
-        serials = differ-made slots (λ k g. each k (omega arith) .lone);
+        serials = differ-made slots (λ k g. sym (alone-slot b k) ∙ each k (omega arith) .lone);
         logins = leb-true (countKind aLogin slots) loginCap (q .1);
       }))
     where
@@ -176,10 +139,10 @@ module _ (b : List ℕ) (m : ℕ) (h : length b ≡ 512 * m + 512) (few : m ≤ 
     by-slot z zero a c = absurd (omega arith)
     by-slot z (suc k) a c =
         let g : k < m = omega arith in
-        made k g (record {
+        made clock next b (suc k) (slot k g) y (record {
           rule = right-slot clock next slots (z .records) (suc k);
-          block = block-lawful b l e k (rw count g) ∙ ap encodeRec (sym (said k g));
-          lone = differ-told slots (z .serials) k (rw n g);
+          block = block-lawful b l e k (rw count g) ∙ ap encodeRec (sym (slot-of b (suc k) (slot k g)));
+          lone = alone-slot b k ∙ differ-told slots (z .serials) k (rw n g);
         })
 
   back : tableLawful b ≡ true → judged b ≡ true

@@ -45,12 +45,15 @@ fn parent_right(f: Fields, p: Fields) -> bool
     )
 }
 
-// Does the record in a slot, unless it is free, have this serial?
+// Does the record in a slot, unless it is free, have this serial? Most have another, so that is asked first.
 fn has_serial(table: &[u8], slot: usize, serial: u32) -> bool
     requires { ⌜ In slot (now table) ⌝ }
     ensures { λ r. ⌜ r ≡ hasSerial serial (saidAt slot (now (table .entry))) ⌝ }
 {
-    (table::kind_of(table, slot) != ticket::FREE) & (table::serial_of(table, slot) == serial)
+    if table::serial_of(table, slot) != serial {
+        return false;
+    }
+    table::kind_of(table, slot) != ticket::FREE
 }
 
 // Has a record behind slot k this serial?
@@ -79,8 +82,8 @@ fn serial_alone(table: &[u8], n: usize, k: usize, f: Fields) -> bool
     !serial_taken(table, n, k, f.serial)
 }
 
-// Does the record in slot k keep every rule, and is its block its own?
-fn slot_right(table: &[u8], n: usize, clock: u64, next: u32, k: usize) -> bool
+// Does the record in slot k keep every rule, and is its block its own? Every field is read, and its bytes are summed.
+fn held_right(table: &[u8], n: usize, clock: u64, next: u32, k: usize) -> bool
     requires { ⌜ (length (now table) ≡ 512 * n) × (clock ≤ lastTime) × (1 ≤ k) × (k < n) ⌝ }
     ensures { λ r. ⌜ r ≡ slotRight clock next (now (table .entry)) k ⌝ }
 {
@@ -93,6 +96,17 @@ fn slot_right(table: &[u8], n: usize, clock: u64, next: u32, k: usize) -> bool
         & parent_right(f, p)
         & block::block_ok(table, k)
         & serial_alone(table, n, k, f)
+}
+
+// The same, where a free slot is taken the short way: its block is the one that all free records have.
+fn slot_right(table: &[u8], n: usize, clock: u64, next: u32, k: usize) -> bool
+    requires { ⌜ (length (now table) ≡ 512 * n) × (clock ≤ lastTime) × (1 ≤ k) × (k < n) ⌝ }
+    ensures { λ r. ⌜ r ≡ slotRight clock next (now (table .entry)) k ⌝ }
+{
+    if table::kind_of(table, k) == ticket::FREE {
+        return table::is_free(table::block_at(table, k));
+    }
+    held_right(table, n, clock, next, k)
 }
 
 fn slots_right(table: &[u8], n: usize, clock: u64, next: u32) -> bool
