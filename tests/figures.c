@@ -287,6 +287,25 @@ static void tidy(int records, uint64_t time)
         ask(programs[i], all[i], &a);
 }
 
+/* ---- the instructions of a call */
+
+static volatile uint64_t steps;
+
+static void on_step(int number)
+{
+    (void)number;
+    steps++;
+}
+
+static uint64_t count(const struct program *p, struct lent *l, const struct asked *a)
+{
+    steps = 0;
+    __asm__ volatile("pushfq; orq $0x100, (%%rsp); popfq" ::: "memory", "cc");
+    ask(p, l, a);
+    __asm__ volatile("pushfq; andq $-0x101, (%%rsp); popfq" ::: "memory", "cc");
+    return steps;
+}
+
 /* ---- the programs compared */
 
 static void hold_equal(const char *what)
@@ -298,9 +317,13 @@ static void hold_equal(const char *what)
     }
 }
 
+static bool counting; /* whether the instructions of each way are told */
+
 static void compare(const char *what, const struct asked *a)
 {
-    for (int i = 0; i < 3; i++)
+    if (counting)
+        printf("%llu instructions: %s\n", (unsigned long long)count(&of_archive, &proved, a), what);
+    for (int i = counting; i < 3; i++)
         if (!ask(programs[i], all[i], a))
             printf("NOT KNOWN: %s\n", what), failed++;
     hold_equal(what);
@@ -475,24 +498,7 @@ static int compare_ways(int records)
     return ways;
 }
 
-/* ---- instructions */
-
-static volatile uint64_t steps;
-
-static void on_step(int number)
-{
-    (void)number;
-    steps++;
-}
-
-static uint64_t count(const struct program *p, struct lent *l, const struct asked *a)
-{
-    steps = 0;
-    __asm__ volatile("pushfq; orq $0x100, (%%rsp); popfq" ::: "memory", "cc");
-    ask(p, l, a);
-    __asm__ volatile("pushfq; andq $-0x101, (%%rsp); popfq" ::: "memory", "cc");
-    return steps;
-}
+/* ---- instructions beside plain C */
 
 /* The same calls of nothing: what the caller itself costs. */
 static bool no_answer(uint8_t *table, size_t table_len, const uint8_t *register_bytes, size_t register_len, bool post, const uint8_t *target,
@@ -545,7 +551,7 @@ int main(int argc, char **argv)
     static const uint64_t clocks[] = { (1ull << 40) - 30000, 1735689599 }; /* in the year 36812, and the end of 2024 */
     struct sigaction action;
     struct asked a;
-    (void)argv;
+    counting = argc == 2 && !strcmp(argv[1], "ways");
     memset(&action, 0, sizeof action);
     action.sa_handler = on_step;
     sigaction(SIGTRAP, &action, 0);
@@ -555,7 +561,7 @@ int main(int argc, char **argv)
     panel(panels + 3 * BLOCK, "https://camera.lan/view", "https://camera.lan/cb");
     for (int i = 0; i < RANDOM; i++)
         random_bytes[i] = (uint8_t)(i * 37 + 11);
-    for (int i = 0; i < 4; i++) {
+    for (int i = 0; i < (counting ? 1 : 4); i++) {
         int records = sizes[i % 2];
         first_serial = serials[i / 2];
         T = clocks[i / 2];

@@ -1,5 +1,6 @@
 /* A host in plain C: it makes a register and has it checked, signs a user in, validates, replays the ticket, takes a grant, proxies, to the
- * deepest chain too, has the visits told and logs out; then it lets everything expire, and keeps house. It checks each answer. */
+ * deepest chain too, has the visits told and logs out; then it presents each kind of text misspelt, lets everything expire, and keeps house. It
+ * checks each answer. */
 #include "client.h"
 #include <time.h>
 
@@ -196,6 +197,84 @@ static void try_session_expired(char *jar, const char *pgt)
     expect("house is kept: the new sessions stay", !housekeep() && held(2) == 2 && held(3) == 2 && held(0) == BLOCKS - 1 - 4);
 }
 
+/* A text misspelt in the way of a number: a leading zero, the serial 2^32 higher, a capital hex digit, the last hex digit another, one more, one
+ * less, another kind's prefix. False beyond the last way. */
+static bool misspelt(char *to, const char *text, int way)
+{
+    const char *serial = strchr(text, '-') + 1, *hex = strchr(serial, '-') + 1;
+    size_t last = strlen(text) - 1;
+    snprintf(to, 90, "%s", text);
+    switch (way) {
+    case 0:
+        snprintf(to, 90, "%.*s0%s", (int)(serial - text), text, serial);
+        return true;
+    case 1:
+        snprintf(to, 90, "%.*s%llu-%s", (int)(serial - text), text, strtoull(serial, 0, 10) + (1ull << 32), hex);
+        return true;
+    case 2:
+        for (char *c = to + (hex - text); *c; c++)
+            if (*c >= 'a') {
+                *c = (char)(*c - 32);
+                return true;
+            }
+        abort(); /* a draw without a single letter */
+    case 3:
+        to[last] = to[last] == '0' ? '1' : '0';
+        return true;
+    case 4:
+        to[last + 1] = '0';
+        to[last + 2] = 0;
+        return true;
+    case 5:
+        to[last] = 0;
+        return true;
+    case 6:
+        to[0] = to[0] == 'P' ? 'S' : 'P';
+        return true;
+    }
+    return false;
+}
+
+/* No misspelt text of any kind finds its record, which stays; a text with escapes is the same text. */
+static void try_misspelt(void)
+{
+    static uint8_t before[sizeof table];
+    char jar[JAR] = "", wrong[JAR + 30], target[512], body[512], lt[80], ticket[80], pgt[80];
+    int found = 0, ways = 0;
+    pyhtirso_format(table, sizeof table, now);
+    sign_in(jar, "ann");
+    call(jar, false, "/cas/login?service=" GATE, "", false);
+    snprintf(target, sizeof target, "/cas/serviceValidate?service=" GATE "&pgtUrl=" GATE_CALLBACK "&ticket=%s", between(said, "ticket=", ""));
+    call(jar, false, target, "", false);
+    snprintf(pgt, sizeof pgt, "%s", between(said, "pgtId=", "&"));
+    finish((uint32_t)outcome[PYHTIRSO_CALLBACK_SERIAL], true);
+    call(jar, false, "/cas/login?renew=1", "", false);
+    snprintf(lt, sizeof lt, "%s", login_ticket());
+    take_ticket(jar, ticket);
+    memcpy(before, table, sizeof table);
+    for (; misspelt(wrong, ticket, ways); ways++) {
+        validate(jar, LAMP, wrong);
+        found += !says(XML, 200, "code=\"INVALID_TICKET\"");
+        misspelt(wrong, pgt, ways);
+        snprintf(target, sizeof target, "/cas/proxy?pgt=%s&targetService=" LAMP, wrong);
+        call(jar, false, target, "", false);
+        found += !says(XML, 200, "code=\"BAD_PGT\"");
+        misspelt(wrong, jar, ways);
+        call(wrong, false, "/cas/login?gateway=1&service=" LAMP, "", false);
+        found += outcome[PYHTIRSO_DATA] != 0;
+    }
+    expect("seven ways to misspell ticket, grant and cookie find no record", ways == 7 && !found && records_kept(before));
+    for (int way = 0; misspelt(wrong, lt, way); way++) {
+        snprintf(body, sizeof body, "username=ann&password=secret&lt=%s", wrong);
+        call(jar, true, "/cas/login", body, true);
+        found += !says(PAGE, 401, "<form");
+    }
+    expect("nor a login ticket", !found && held(1) == 8);
+    snprintf(target, sizeof target, "%%53T%s", ticket + 2);
+    validate(jar, LAMP, target);
+    expect("an escaped letter is that letter", says(XML, 200, "<cas:user>ann</cas:user>"));
+}
+
 static void try_housekeeping_refused(void)
 {
     static uint8_t before[sizeof table];
@@ -326,6 +405,7 @@ int main(void)
            !pyhtirso_finish(table, sizeof table, 1, true, now, out, OUT, wrong, 7) && !pyhtirso_check_register(panels, sizeof panels, wrong, 1)
                && !pyhtirso_visit(table, sizeof table, cookie_out, 0, 0, now, random_bytes, RANDOM, out, OUT, wrong, 3)
                && wrong[0] == 0x0707070707070707u && !memcmp(said, table, BLOCK));
+    try_misspelt();
     try_expiry();
     printf("%d failed\n", failed);
     return failed != 0;

@@ -109,6 +109,6 @@ __attribute__((constructor)) static void paint(void)
 
 __attribute__((destructor)) static void tell(void)
 {
-    printf("stack: answer %d bytes, finish %d bytes, housekeep %d bytes, visit %d bytes\n", used(answer_stack), used(finish_stack),
-           used(housekeep_stack), used(visit_stack));
+    printf("stack: answer %d bytes, finish %d bytes, housekeep %d bytes, visit %d bytes%s\n", used(answer_stack), used(finish_stack),
+           used(housekeep_stack), used(visit_stack), used(answer_stack) > PYHTIRSO_STACK ? ", OVER what the header says" : "");
 }
