@@ -20,7 +20,7 @@ extern "C" {
 #define PYHTIRSO_VERSION 2
 
 /* Bytes of stack that a call takes at most, its arguments included. Measured, not proved: docs/FIGURES.md. */
-#define PYHTIRSO_STACK 4096
+#define PYHTIRSO_STACK 2048
 
 /* Refusal numbers, judged in this order; 0 where the call was answered. A refused call writes its number and zeros to its list of numbers, and
  * nothing anywhere else. */
