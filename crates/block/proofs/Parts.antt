@@ -1,13 +1,15 @@
 -- A block in the middle of a table. Assumes nothing.
-use mathlib.Core.Path.{_≡_, ap, _∙_}
-use mathlib.Core.List.{List}
+use mathlib.Core.Path.{_≡_, sym, ap, _∙_}
+use mathlib.Core.Bool.{Bool}
+use mathlib.Core.List.{List, _++_, append-nil}
 use Prim.Native.Nat.{ℕ, _+_, _*_, _-_, _≤_}
 use native.Mathlib.Omega.{arith}
 use lib.Dec.{eqb, lit≤}
 use lib.ListN.{length, take, drop, length-drop}
 use lib.Seq.{drop-drop, drop-at, take-take, take-add, length-take-le}
-use Rattle.protocol.specs.Bytes.{part, num}
+use Rattle.protocol.specs.Bytes.{part, num, zeros}
 use Rattle.protocol.specs.Blocks.{houseCheck, checkRight}
+use Rattle.block.specs.Checks.{checkRightTo}
 
 -- a part of a part is a part of the whole
 pub part-part : (s : List ℕ) (a k b m : ℕ) → b + m ≤ k → a + b ≤ length s → part b m (part a k s) ≡ part (a + b) m s
@@ -21,9 +23,18 @@ part-part s a k b m h g =
     rw d (take-take m (k - b) (drop (a + b) s) (omega arith))
 
 -- the test of a block from the check of its first part, taken from the table, and the number after it
-pub right-in-place : (t : List ℕ) (k : ℕ) {x y : ℕ} → 512 * k + 512 ≤ length t
-    → x ≡ houseCheck (part (512 * k) (512 * k + 508 - 512 * k) t) → y ≡ num (512 * k + 508) 4 t → eqb x y ≡ checkRight (part (512 * k) 512 t)
-unfolding checkRight
-right-in-place t k h p q =
-    let e : 512 * k + 508 - 512 * k ≡ 508 = omega arith in
-    rw (p, q, e, take-take 508 512 (drop (512 * k) t) (lit≤ tt), part-part t (512 * k) 512 508 4 (lit≤ tt) (omega arith))
+pub right-in-place : (t : List ℕ) (k u : ℕ) {x y : ℕ} → 512 * k + 512 ≤ length t → u ≤ 508
+    → x ≡ houseCheck (part (512 * k) (512 * k + u - 512 * k) t ++ zeros (508 - u)) → y ≡ num (512 * k + 508) 4 t → eqb x y ≡ checkRightTo u (part (512 * k) 512 t)
+unfolding checkRightTo
+right-in-place t k u h g p q =
+    let e : 512 * k + u - 512 * k ≡ u = omega arith in
+    rw (p, q, e, take-take u 512 (drop (512 * k) t) (omega arith), part-part t (512 * k) 512 508 4 (lit≤ tt) (omega arith))
+
+-- where the bytes behind the first so many are zeros the check over these is the block's
+pub right-to : (b : List ℕ) (u : ℕ) → take 508 b ≡ take u b ++ zeros (508 - u) → checkRightTo u b ≡ checkRight b
+unfolding checkRightTo checkRight
+right-to b u e = rw e
+
+-- and so it is where there are none behind them
+pub right-all : (b : List ℕ) {r : Bool} → r ≡ checkRightTo 508 b → r ≡ checkRight b
+right-all b e = e ∙ right-to b 508 (sym (append-nil (take 508 b)))

@@ -1,10 +1,11 @@
 // The house block: little-endian fields in place, and the check of a block. Everything works on a part of the caller's bytes.
 ghost use mathlib.Core.Path.{_≡_};
-ghost use mathlib.Core.List.{[], _∷_};
+ghost use mathlib.Core.List.{[], _∷_, _++_};
 ghost use Prim.Native.Nat.{_+_, _*_, _≤_, _<_, _^_};
 ghost use lib.ListN.{length, take};
 ghost use Rattle.protocol.specs.Bytes.{allWithin, num, part, bytesOf, zeros, padTo, spliced};
 ghost use Rattle.protocol.specs.Blocks.{houseCheck, checkRight, sealed};
+ghost use Rattle.block.specs.Checks.{checkRightTo};
 
 // ---- fields read
 
@@ -127,10 +128,11 @@ pub fn pad_at(s: &mut [u8], at: usize, n: usize, src: &[u8])
 
 // ---- the check
 
-// Both sums run on unreduced over the part, and are reduced once at its end.
-pub fn block_check(s: &[u8]) -> u32
-    requires { ⌜ length (now s) ≤ 4096 ⌝ }
-    ensures { λ r. ⌜ r ≡ houseCheck (now (s .entry)) ⌝ }
+// The check of a text with n zeros behind it. Both sums run on unreduced over the text, and are reduced once at the end; over
+// zeros the first stays, and the second grows by the first at each.
+pub fn padded_check(s: &[u8], n: usize) -> u32
+    requires { ⌜ length (now s) + n ≤ 4096 ⌝ }
+    ensures { λ r. ⌜ r ≡ houseCheck (now (s .entry) ++ zeros n) ⌝ }
 {
     let mut a: u64 = 1;
     let mut b: u64 = 0;
@@ -140,7 +142,27 @@ pub fn block_check(s: &[u8]) -> u32
         b += a;
         i += 1;
     }
+    b += n as u64 * a;
     ((b % 65535) * 65536 + a % 65535) as u32
+}
+
+pub fn block_check(s: &[u8]) -> u32
+    requires { ⌜ length (now s) ≤ 4096 ⌝ }
+    ensures { λ r. ⌜ r ≡ houseCheck (now (s .entry)) ⌝ }
+{
+    padded_check(s, 0)
+}
+
+// Is the check of the block at a slot of the lent table that of its first bytes, so many, with zeros behind them? The bytes
+// between them and the check are not read.
+pub fn block_ok_to(table: &[u8], slot: usize, used: usize) -> bool
+    requires { ⌜ (512 * slot + 512 ≤ length (now table)) × (used ≤ 508) ⌝ }
+    ensures { λ r. ⌜ r ≡ checkRightTo used (part (512 * slot) 512 (now (table .entry))) ⌝ }
+{
+    let from = 512 * slot;
+    let to = from + used;
+    let sum = padded_check(&table[from..to], 508 - used);
+    sum == get_u32(table, from + 508)
 }
 
 // Is the check right of the block at a slot of the lent table?
@@ -148,10 +170,7 @@ pub fn block_ok(table: &[u8], slot: usize) -> bool
     requires { ⌜ 512 * slot + 512 ≤ length (now table) ⌝ }
     ensures { λ r. ⌜ r ≡ checkRight (part (512 * slot) 512 (now (table .entry))) ⌝ }
 {
-    let from = 512 * slot;
-    let to = from + 508;
-    let sum = block_check(&table[from..to]);
-    sum == get_u32(table, to)
+    block_ok_to(table, slot, 508)
 }
 
 // The check of a block's first 508 bytes, written behind them.

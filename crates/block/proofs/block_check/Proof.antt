@@ -1,36 +1,10 @@
--- The definition's sums over what is left, from the reduced sums so far, are those of the whole.
-use mathlib.Core.Path.{_≡_, refl, sym, _∙_}
-use Prim.Native.Nat.{_≤_, _+_, _*_, _-_, _%_}
-use native.Mathlib.Omega.{arith}
+-- No zeros stand behind the text.
+use Rattle.block.proofs.Sums.{check-bare}
 use borrow.Author.Needs.{needs}
-use lib.ListN.{length, drop}
-use Rattle.protocol.specs.Blocks.{checkFrom, houseCheck}
-use Rattle.block.proofs.Sums.{sums-turn, sums-done}
 use Rattle.block.proofs.block_check.Statement.{statement}
 use Rattle.block.proofs.block_check.Tie as tie
-
-abbrev Inv-loop : tie.InvT-loop
-Inv-loop s a₀ b₀ i₀ a b i =
-    (i ≤ length s) × (a ≤ 1 + 255 * i) × (b ≤ 1044481 * i)
-    × (checkFrom (a % 65535) (b % 65535) (drop i s) ≡ houseCheck s)
-
-abbrev μ-loop : tie.MeasureT-loop
-μ-loop s a₀ b₀ i₀ a b i = length s - i
-
-loop-holds : tie.Need-loop-holds Inv-loop μ-loop
-unfolding houseCheck
-loop-holds c = (omega arith, omega arith, omega arith, refl)
-
-loop-again : tie.Need-loop-again Inv-loop μ-loop
-loop-again c =
-    let l = c .before .before .before .loop in
-    let k = c .before .shared-slice-known2 .given (l .i) in
-    (omega arith, omega arith, omega arith, sym (sums-turn _ (l .i) (l .a) (l .b) (c .wide .result) (omega arith) (c .wide .ensures .0)) ∙ l .inv .3)
 
 pub block-check-spec : {M : Type 1} → statement M
 block-check-spec =
     tie.close
-    (tie.spec Inv-loop μ-loop loop-holds (λ c. omega arith) (search needs)
-    (λ c. omega (arith, c .before .shared-slice-known2 .given (c .before .before .before .loop .i)))
-    (λ c. omega (arith, c .before .shared-slice-known2 .given (c .before .before .before .loop .i))) (λ c. omega arith) (λ c. omega arith) loop-again
-    (λ c. omega arith) (λ c. omega arith) (λ c. omega arith) (λ c. sym (sums-done _ (c .before .loop .i) _ _ (omega arith)) ∙ c .before .loop .inv .3))
+    (tie.spec (search needs) (λ c. search check-bare))
