@@ -10,15 +10,16 @@ use lib.Dec.{eqb, leb, ltb}
 use lib.ListN.{length, drop-of-length-le}
 use lib.Seq.{drop-cons}
 use Rattle.protocol.specs.Bytes.{if, part}
-use Rattle.protocol.specs.Blocks.{checkRight}
 use Rattle.protocol.specs.Records.{Rec, freeRec}
 use Rattle.protocol.specs.Table.{decodeTable, recAt, serialTaken, sessionRight, parentRight, grantRight}
 use Rattle.protocol.proofs.Laws.{and-false}
 use Rattle.protocol.proofs.Places.{slots-count}
 use Rattle.protocol.specs.Held.{In, saidAt}
+use Rattle.block.specs.Checks.{checkRightTo}
 use Rattle.table.specs.declared.Fields.{Fields}
 use Rattle.table.specs.Parts.{Block, fieldsOf}
 use Rattle.table_rules.specs.Tests.{recordRight}
+use Rattle.table_judge.proofs.Tail.{short-sum}
 use Rattle.table_judge.specs.Tests.{fromSlot, sessionTest, parentTest, hasSerial, aloneAt, slotRight, allFrom}
 
 -- a slot of so many blocks
@@ -127,10 +128,11 @@ alone-held b k {f} e z g =
 -- all that is asked of a slot
 pub slot-right : (b : List ℕ) (clock next k : ℕ) {bl : List ℕ} {f s p : Fields} {o u v c a : Bool} → Block k b bl → f ≡ fieldsOf (saidAt k b)
     → s ≡ fieldsOf (saidAt (f .session) b) → p ≡ fieldsOf (saidAt (f .parent) b)
-    → o ≡ recordRight clock next bl → u ≡ sessionTest f s → v ≡ parentTest f p → c ≡ checkRight (part (512 * k) 512 b) → a ≡ aloneAt k b
+    → o ≡ recordRight clock next bl → u ≡ sessionTest f s → v ≡ parentTest f p → c ≡ checkRightTo 280 (part (512 * k) 512 b) → a ≡ aloneAt k b
     → o && u && v && c && a ≡ slotRight clock next b k
 unfolding slotRight
-slot-right b clock next k {f = f} {s = s} {p = p} at e i j o u v c a =
+slot-right b clock next k {bl = bl} {f = f} {s = s} {p = p} at e i j o u v c a =
     let u' : sessionTest f s ≡ sessionRight (decodeTable b .slots) (saidAt k b) = rw (i, e) (sym (session-is (decodeTable b .slots) (saidAt k b))) in
     let v' : parentTest f p ≡ parentRight (decodeTable b .slots) (saidAt k b) = rw (j, e) (sym (parent-is (decodeTable b .slots) (saidAt k b))) in
-    rw (o, at .says, at .is, u, u', v, v', c, a)
+    let w = short-sum clock next bl (sessionRight (decodeTable b .slots) (saidAt k b)) (parentRight (decodeTable b .slots) (saidAt k b)) (aloneAt k b) (at .size) in
+    rw (o, at .says, at .is, u, u', v, v', c, a) (rw (at .says, at .is) at w)

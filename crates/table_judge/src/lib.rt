@@ -82,7 +82,8 @@ fn serial_alone(table: &[u8], n: usize, k: usize, f: Fields) -> bool
     !serial_taken(table, n, k, f.serial)
 }
 
-// Does the record in slot k keep every rule, and is its block its own? Every field is read, and its bytes are summed.
+// Does the record in slot k keep every rule, and is its block its own? Every field is read, and its bytes are summed: those behind
+// the sign-on time are zero in a right record, so the check is that of the bytes before them with zeros behind.
 fn held_right(table: &[u8], n: usize, clock: u64, next: u32, k: usize) -> bool
     requires { ⌜ (length (now table) ≡ 512 * n) × (clock ≤ lastTime) × (1 ≤ k) × (k < n) ⌝ }
     ensures { λ r. ⌜ r ≡ slotRight clock next (now (table .entry)) k ⌝ }
@@ -94,7 +95,7 @@ fn held_right(table: &[u8], n: usize, clock: u64, next: u32, k: usize) -> bool
     table_rules::record_right(b, f, clock, next)
         & session_right(f, s)
         & parent_right(f, p)
-        & block::block_ok(table, k)
+        & block::block_ok_to(table, k, table::END_SINCE)
         & serial_alone(table, n, k, f)
 }
 
