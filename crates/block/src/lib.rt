@@ -1,7 +1,7 @@
 // The house block: little-endian fields in place, and the check of a block. Everything works on a part of the caller's bytes.
 ghost use mathlib.Core.Path.{_≡_};
 ghost use mathlib.Core.List.{[], _∷_, _++_};
-ghost use Prim.Native.Nat.{_+_, _*_, _≤_, _<_, _^_};
+ghost use Prim.Native.Nat.{_+_, _-_, _*_, _≤_, _<_, _^_};
 ghost use lib.ListN.{length, take};
 ghost use Rattle.protocol.specs.Bytes.{allWithin, num, part, bytesOf, zeros, padTo, spliced};
 ghost use Rattle.protocol.specs.Blocks.{houseCheck, checkRight, sealed};
@@ -153,16 +153,23 @@ pub fn block_check(s: &[u8]) -> u32
     padded_check(s, 0)
 }
 
-// Is the check of the block at a slot of the lent table that of its first bytes, so many, with zeros behind them? The bytes
-// between them and the check are not read.
+// The check of a text whose bytes from `used` on are zero; these are not read.
+fn check_to(s: &[u8], used: usize) -> u32
+    requires { ⌜ (length (now s) ≤ 4096) × (used ≤ length (now s)) ⌝ }
+    ensures { λ r. ⌜ r ≡ houseCheck (take used (now (s .entry)) ++ zeros (length (now (s .entry)) - used)) ⌝ }
+{
+    padded_check(&s[..used], s.len() - used)
+}
+
+// Is the check of the block at a slot of the lent table that of its first bytes, so many, with zeros behind them?
 pub fn block_ok_to(table: &[u8], slot: usize, used: usize) -> bool
     requires { ⌜ (512 * slot + 512 ≤ length (now table)) × (used ≤ 508) ⌝ }
     ensures { λ r. ⌜ r ≡ checkRightTo used (part (512 * slot) 512 (now (table .entry))) ⌝ }
 {
     let from = 512 * slot;
-    let to = from + used;
-    let sum = padded_check(&table[from..to], 508 - used);
-    sum == get_u32(table, from + 508)
+    let to = from + 508;
+    let sum = check_to(&table[from..to], used);
+    sum == get_u32(table, to)
 }
 
 // Is the check right of the block at a slot of the lent table?
