@@ -15,7 +15,7 @@ use Rattle.text.proofs.Pieces.{piece-1, piece-2, piece-3, last-piece, more-piec
 use Rattle.xml.specs.declared.Code.{Code}
 use Rattle.xml.specs.Codes.{codeOf}
 use Rattle.xml.specs.Response.{responseOpen, responseClose, failureOpen, codeTwice, failureClose, failureParts, proxyTicket}
-use Rattle.xml.specs.Success.{successHead, successTail, proxiesOpen, proxiesClose, proxyLine, successUser, datePart, tokenLine, loginPart, attributeParts, iouLine}
+use Rattle.xml.specs.Success.{successHead, successTail, proxiesOpen, proxiesClose, proxyLine, successUser, datePart, loginPart, attributeParts, iouLine}
 
 -- a proxy ticket
 ticket-text : (t : List ℕ) → replyText (ProxySuccess t) ≡ joined (responseOpen ∷ proxyTicket t ∷ responseClose ∷ [])
