@@ -1,4 +1,6 @@
 // The house block: little-endian fields in place, and the check of a block. Everything works on a part of the caller's bytes.
+#![tactic(auto)]
+
 ghost use Rattle.std.specs.Prelude.{◌≡◌, [], ◌∷◌, ◌++◌, ◌+◌, ◌-◌, ◌*◌, ◌≤◌, ◌<◌, ◌^◌, length, take};
 ghost use Rattle.protocol.specs.Bytes.{all_within, num, part, bytes_of, zeros, pad_to, spliced};
 ghost use Rattle.protocol.specs.Blocks.{house_check, check_right, sealed};

@@ -1,5 +1,7 @@
 // The date of a second, written as `2024-02-29T06:00:00Z`. The year comes from one division by the mean year of 365.2425 days,
 // which is at most one year short; the months are counted.
+#![tactic(auto)]
+
 ghost use Rattle.std.specs.Prelude.{◌≡◌, ◌∷◌, ◌+◌, ◌≤◌, ◌<◌};
 ghost use Rattle.protocol.specs.Calendar.{is_leap, month_length, year_of, month_of, date_of, padded, day_text, clock_text, date_text};
 ghost use Rattle.protocol.specs.Table.{last_time};

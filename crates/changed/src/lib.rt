@@ -1,5 +1,7 @@
 // What changed of a table, told block by block: how many blocks, then each block that is not as it was, its number before it. Laid over
 // the old table, what is told gives the new one: proofs/Laws.antt has that law, and a host's storage rests on it.
+#![tactic(auto)]
+
 ghost use Rattle.std.specs.Prelude.{◌≡◌, not, ◌+◌, ◌*◌, ◌/◌, ◌≤◌, length};
 ghost use Rattle.protocol.specs.Bytes.{same};
 ghost use Rattle.protocol.specs.Written.{Wrote};

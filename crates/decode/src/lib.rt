@@ -1,5 +1,7 @@
 // A raw value decoded: `%` and two hex digits are one byte, and in a body `+` is a space. It is judged first, with nothing
 // written; then it is compared with a text where it stands, or written at the front of a lent buffer.
+#![tactic(auto)]
+
 ghost use Rattle.std.specs.Prelude.{◌≡◌, true, ◌<◌, length, get_or};
 ghost use Rattle.protocol.specs.Bytes.{same, all_within};
 ghost use Rattle.protocol.specs.Request.{decoded};
@@ -9,14 +11,14 @@ ghost use Rattle.decode.specs.Judging.{Hex, UnitAt, judged, judged_name};
 use utf8::Next;
 
 // A value that may not stand, or the length of one that may.
-#[derive(Drop)]
+#[derive(Clone, Copy)]
 pub enum Judged {
     Bad,
     Good(usize),
 }
 
 // The byte that stands at a place of a raw value, or 256 for a `%` without two hex digits; and the next place.
-#[derive(Drop)]
+#[derive(Clone, Copy)]
 struct Unit {
     value: usize,
     next: usize,

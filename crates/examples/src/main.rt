@@ -1,5 +1,7 @@
 // Makes the calls of a script on standard input, and writes what each answered, in words and as it stands: the worked cases of
 // document 01 that are no theorems. The numbered examples are theorems of `protocol`.
+#![tactic(auto)]
+
 mod panels;
 mod script;
 mod shown;

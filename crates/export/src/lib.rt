@@ -1,5 +1,7 @@
 // The nine calls for a host that links the library: numbers as themselves, a slice as pointer and length, and a result as a lent list of
 // numbers. A list of another length than the result has is refused: false, and nothing is written.
+#![tactic(auto)]
+
 ghost use Rattle.std.specs.Prelude.{◌≡◌, [], length};
 ghost use Rattle.protocol.specs.Calls.{inputs, numbered, format_of, housekeep_of, check_of};
 ghost use Rattle.protocol.specs.Panels.{made, panel_of};

@@ -1,4 +1,6 @@
 // A callback finished: the waiting grant of a serial becomes a grant or is removed, and success is told of it.
+#![tactic(auto)]
+
 ghost use Rattle.std.specs.Prelude.{◌≤◌, length};
 ghost use Rattle.protocol.specs.Table.{decode_table};
 ghost use Rattle.protocol.specs.Steps.{finish};

@@ -1,5 +1,7 @@
 // The form reader: username and password of a login body into two lent buffers. The body is read once, and all four names are
 // judged before either buffer is written.
+#![tactic(auto)]
+
 ghost use Rattle.std.specs.Prelude.{◌≡◌, true, length};
 ghost use Rattle.protocol.specs.Calls.{form_read, form_given, form_of};
 ghost use Rattle.request.specs.Value.{value_at, Readable};

@@ -1,5 +1,7 @@
 // The service that a request names, found in the register: its value is compared where it lies, and what is handed out is the register's
 // own bytes, so that nobody decodes it.
+#![tactic(auto)]
+
 ghost use Rattle.std.specs.Prelude.{◌≡◌, ◌&&◌, eqb, ltb, length};
 ghost use Rattle.protocol.specs.Register.{decode_register, callback_of};
 ghost use Rattle.protocol.specs.Steps.{link_to};

@@ -1,5 +1,7 @@
 // What the programs that read frames share: parts of lent buffers, the fields of a frame, and the frame of an answer. Every place is taken
 // as far as the buffer goes.
+#![tactic(auto)]
+
 ghost use Rattle.std.specs.Prelude.{◌≡◌, ◌+◌, ◌≤◌, length, take};
 ghost use Rattle.io.specs.Counts.{IsPrefixLen};
 
@@ -102,7 +104,7 @@ pub fn field<'a>(frame: &'a [u8], at: u64, end: u64) -> &'a [u8] {
 // ---- the frame of an answer: letter, u8 post, u64 time, u8 verdict, u32 and u32 for the sizes of output and cookie output, then the texts
 // target, body, cookie and random
 
-#[derive(Drop)]
+#[derive(Clone, Copy)]
 pub struct Asked {
     pub post: bool,
     pub time: u64,
@@ -128,7 +130,7 @@ pub fn asked_of(frame: &[u8]) -> Asked {
 }
 
 // Where each of the frame's texts ends.
-#[derive(Drop)]
+#[derive(Clone, Copy)]
 pub struct Ends {
     pub target: u64,
     pub body: u64,

@@ -1,4 +1,6 @@
 // Login, GET: a live session gives a ticket or the signed-in page, a gateway the redirect without ticket, and all else the form.
+#![tactic(auto)]
+
 ghost use Rattle.std.specs.Prelude.{◌≡◌, false};
 ghost use Rattle.protocol.specs.Table.{decode_table};
 ghost use Rattle.protocol.specs.Request.{Given, asking, asked};

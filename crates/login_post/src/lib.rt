@@ -1,5 +1,7 @@
 // Login, POST: a live login ticket is spent whatever follows; then the service, then the credentials are judged. Who is
 // refused gets the form again.
+#![tactic(auto)]
+
 ghost use Rattle.std.specs.Prelude.{◌≡◌, true, [], ◌≤◌, length};
 ghost use Rattle.protocol.specs.Table.{decode_table};
 ghost use Rattle.protocol.specs.Request.{posted};

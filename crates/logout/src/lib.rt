@@ -1,5 +1,7 @@
 // Logout: the session of the cookie ends with all records that name it, the cookie is cleared even without one, and the link
 // stands only if url is a registered service.
+#![tactic(auto)]
+
 ghost use Rattle.std.specs.Prelude.{false};
 ghost use Rattle.protocol.specs.Table.{decode_table};
 ghost use Rattle.protocol.specs.Request as read;

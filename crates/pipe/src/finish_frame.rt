@@ -7,7 +7,7 @@ use super::{Held, cut};
 use lent::{CUT, byte, long, number, unfilled};
 
 // What the frame says.
-#[derive(Drop)]
+#[derive(Clone, Copy)]
 struct Finished {
     serial: u32,
     outcome: bool,

@@ -33,6 +33,8 @@
 // frame that is cut, too large, not filled by its fields or unknown gets a frame X, bytes reason, and ends the program.
 //
 // Room: a frame of 131,072 bytes, a table of 65,536, a register of 8,704, an output of 16,384, any other lent buffer of 4,096.
+#![tactic(auto)]
+
 mod answer_frame;
 mod finish_frame;
 mod form_frame;
@@ -55,7 +57,7 @@ use table_frames::{check, format, load, read_back, take_register};
 use visit_frame::visit;
 
 // How many bytes table and register have, where the frame out ends, and whether to go on.
-#[derive(Drop)]
+#[derive(Clone, Copy)]
 struct Held {
     table: u64,
     register: u64,

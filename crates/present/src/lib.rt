@@ -1,5 +1,7 @@
 // A ticket presented: found, ruled on, spent, and only then answered. What is spent is removed, but for an accepted service ticket, whose
 // record becomes a visit.
+#![tactic(auto)]
+
 ghost use Rattle.std.specs.Prelude.{◌≡◌, false, ◌≤◌, length};
 ghost use Rattle.protocol.specs.Table.{decode_table};
 ghost use Rattle.protocol.specs.Steps.{failed, ticket_slot, grant_or_tell, is_plain, accept_ticket};

@@ -1,14 +1,15 @@
 // The types of the interface: what a request is, what a call answers, and what reading a form, asking for a visit
 // or checking a register gives. And what a step decides before it acts, and dates, of which meaning and code speak alike.
+#![tactic(auto)]
 
-#[derive(Drop)]
+#[derive(Clone, Copy)]
 pub enum Method {
     Get,
     Post,
 }
 
 // The three validators: /cas/validate, /cas/serviceValidate, /cas/proxyValidate.
-#[derive(Drop)]
+#[derive(Clone, Copy)]
 pub enum Validator {
     Plain,
     Service,
@@ -16,7 +17,7 @@ pub enum Validator {
 }
 
 // The path of a request, by the names of document 01.
-#[derive(Drop)]
+#[derive(Clone, Copy)]
 pub enum Path {
     Login,
     Logout,
@@ -26,7 +27,7 @@ pub enum Path {
 }
 
 // What login by GET comes to.
-#[derive(Drop)]
+#[derive(Clone, Copy)]
 pub enum Way {
     // the service is not in the register
     Unknown,
@@ -38,7 +39,7 @@ pub enum Way {
 }
 
 // What becomes of credentials.
-#[derive(Drop)]
+#[derive(Clone, Copy)]
 pub enum Admission {
     // the service is not in the register
     Unknown,
@@ -48,7 +49,7 @@ pub enum Admission {
 }
 
 // Whose session the cookie names: nobody's, the user's own or another's, in its slot.
-#[derive(Drop)]
+#[derive(Clone, Copy)]
 pub enum Standing {
     Absent,
     Kept(usize),
@@ -56,7 +57,7 @@ pub enum Standing {
 }
 
 // What is to be said of a live ticket. Of an accepted one: its session, where its proxies start, 0 for none, and its mark.
-#[derive(Drop)]
+#[derive(Clone, Copy)]
 pub enum Ruling {
     NoTicket,
     NoService,
@@ -66,7 +67,7 @@ pub enum Ruling {
 // What was answered, each with its own data: a page and its status, a redirect and whether it carries a ticket,
 // the text `yes` or `no`, XML and whether it tells of success, a callback and the serial of its waiting grant.
 // A refused call answers nothing.
-#[derive(Drop)]
+#[derive(Clone, Copy)]
 pub enum Answer {
     Nothing,
     Page(u32),
@@ -77,7 +78,7 @@ pub enum Answer {
 }
 
 // The result of answer and of finish.
-#[derive(Drop)]
+#[derive(Clone, Copy)]
 pub struct Outcome {
     pub refusal: u32,
     pub answer: Answer,
@@ -89,7 +90,7 @@ pub struct Outcome {
 }
 
 // The result of the form reader.
-#[derive(Drop)]
+#[derive(Clone, Copy)]
 pub struct Form {
     pub refusal: u32,
     pub username_length: usize,
@@ -97,28 +98,28 @@ pub struct Form {
 }
 
 // The result of a question for a visit.
-#[derive(Drop)]
+#[derive(Clone, Copy)]
 pub struct Visit {
     pub refusal: u32,
     pub length: usize,
 }
 
 // The result of a register's check: the first block at fault, from 0; 0 where none is.
-#[derive(Drop)]
+#[derive(Clone, Copy)]
 pub struct Fault {
     pub refusal: u32,
     pub block: usize,
 }
 
 // A day by its place in the year, from 0.
-#[derive(Drop)]
+#[derive(Clone, Copy)]
 pub struct YearDay {
     pub year: u64,
     pub day: u64,
 }
 
 // A day by its month and its place in the month, both from 1.
-#[derive(Drop)]
+#[derive(Clone, Copy)]
 pub struct Date {
     pub year: u64,
     pub month: u64,

@@ -1,4 +1,6 @@
 // Proxy: a grant asks for a ticket to a registered service.
+#![tactic(auto)]
+
 ghost use Rattle.std.specs.Prelude.{◌≡◌, false};
 ghost use Rattle.protocol.specs.Tickets.{a_grant};
 ghost use Rattle.protocol.specs.Table.{decode_table};

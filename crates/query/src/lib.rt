@@ -1,6 +1,8 @@
 // The path of a target, where its query starts, and the names of a query or body, found in one walk over its pieces. A reader
 // that holds the query and its place goes from piece to piece. Its step is thin: the work is `next_piece`, on a plain slice and
 // a place, and whoever calls `piece_after` has plain parameters too.
+#![tactic(auto)]
+
 ghost use Rattle.std.specs.Prelude.{◌≡◌, ◌+◌, ◌-◌, ◌<◌, drop};
 ghost use Rattle.protocol.specs.Bytes.{same, part};
 ghost use Rattle.protocol.specs.Request.{path_named, path_part, query_part};
@@ -10,7 +12,7 @@ ghost use Rattle.query.specs.Place.{Inside, noted_by, Walked};
 use protocol::{Path, Validator};
 
 // A piece: its name runs from `start` to `mid`, its raw value from `value` to `end`. An empty one stands for none.
-#[derive(Drop)]
+#[derive(Clone, Copy)]
 pub struct Piece {
     pub start: usize,
     pub mid: usize,
@@ -19,14 +21,14 @@ pub struct Piece {
 }
 
 // The piece that a reader stands on is its place.
-#[derive(Drop)]
+#[derive(Clone, Copy)]
 pub struct Reader<'a> {
     pub query: &'a [u8],
     pub place: Piece,
 }
 
 // What a walk notes of a name: how many pieces have it, and where the raw value of the first lies.
-#[derive(Drop)]
+#[derive(Clone, Copy)]
 pub struct Place {
     pub count: usize,
     pub from: usize,
@@ -34,7 +36,7 @@ pub struct Place {
 }
 
 // The same of four names.
-#[derive(Drop)]
+#[derive(Clone, Copy)]
 pub struct Places {
     pub a: Place,
     pub b: Place,

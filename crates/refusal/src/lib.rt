@@ -1,4 +1,6 @@
 // The refusals of each call, strictly in the order of document 01's list: the first that applies is answered, 0 for none.
+#![tactic(auto)]
+
 ghost use Rattle.std.specs.Prelude.{◌≡◌, leb};
 ghost use Rattle.protocol.specs.Table.{last_time};
 ghost use Rattle.protocol.specs.Calls.{unless, sizes_right, request_fits, answer_refusal, finish_refusal, format_refusal, housekeep_refusal, check_of};

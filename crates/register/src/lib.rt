@@ -1,6 +1,8 @@
 // The panel register: judged block by block, service and callback of a block handed out as parts of the register's own bytes, and a block
 // made. A block: 0-1 and 2-3 lengths of service and callback, 4-203 service, 204-403 callback, rest zero before the
 // check.
+#![tactic(auto)]
+
 ghost use Rattle.std.specs.Prelude.{◌≡◌, ◌+◌, ◌*◌, ◌/◌, ◌≤◌, length};
 ghost use Rattle.protocol.specs.Bytes.{num, part};
 ghost use Rattle.protocol.specs.Register.{address_right, entry_right, encode_entry, decode_entry, decode_register};

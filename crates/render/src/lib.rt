@@ -1,6 +1,8 @@
 // Bytes out: pages, redirects, `yes` and `no`, and the callback's address. Each is written from the start of the output, the
 // rest is left as it was, and none needs more than the 8,192 bytes that the output has. A text is put in pieces by small functions:
 // the literals of functions that are called one after the other take the same place of the stack.
+#![tactic(auto)]
+
 ghost use Rattle.std.specs.Prelude.{[], ◌≤◌, length};
 ghost use Rattle.protocol.specs.Answers.{reply_text, callback_text, extended, ErrorPage, SignedIn, SignedOut, FormPage, RedirectTo, YesNo};
 ghost use Rattle.protocol.specs.Written.{Room, Wrote};

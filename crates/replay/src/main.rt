@@ -15,6 +15,8 @@
 //                                                 visit, with an output of this size
 //
 // Room: a table of 70,000 bytes, a frame of 131,072, bytes of 65,536 in a frame of another kind than A or V, an output of 16,384, any other lent buffer of 4,096.
+#![tactic(auto)]
+
 mod answer;
 mod frame;
 mod line;
@@ -29,7 +31,7 @@ use line::{say_finish, say_form, say_table};
 use visit::visit;
 
 // How many bytes table and register have, and whether to go on.
-#[derive(Drop)]
+#[derive(Clone, Copy)]
 struct Held {
     table: u64,
     register: u64,

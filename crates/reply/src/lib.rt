@@ -1,5 +1,7 @@
 // What a step says: the reply's bytes, written from the start of the output, and the result that goes with them; and the numbers by which
 // an answer is told to a host.
+#![tactic(auto)]
+
 ghost use Rattle.std.specs.Prelude.{◌≡◌, [], ◌≤◌, length};
 ghost use Rattle.protocol.specs.Bytes.{if};
 ghost use Rattle.protocol.specs.Answers.{number_of, data_of, status_of, serial_of};

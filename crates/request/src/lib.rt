@@ -1,6 +1,8 @@
 // A request read once: one walk over its query or body finds the names that its path uses, each value is judged once, and the
 // answer is malformed, or where the values lie in the caller's own bytes and what is set. A value is compared where it lies, and
 // nothing is written unless it is decoded from there into a lent buffer.
+#![tactic(auto)]
+
 ghost use Rattle.std.specs.Prelude.{◌≡◌, true, false, length};
 ghost use Rattle.protocol.specs.Bytes.{same};
 ghost use Rattle.protocol.specs.Written.{Wrote};
@@ -20,7 +22,7 @@ pub const PASSWORD: usize = 128;
 pub const LONG: usize = 200;
 
 // A raw value's place, and its length when decoded, 0 where it is absent.
-#[derive(Drop)]
+#[derive(Clone, Copy)]
 pub struct Value {
     pub from: usize,
     pub to: usize,
@@ -28,14 +30,14 @@ pub struct Value {
 }
 
 // A used name judged: bad, or its value.
-#[derive(Drop)]
+#[derive(Clone, Copy)]
 pub struct Judgement {
     pub bad: bool,
     pub value: Value,
 }
 
 // What the names of a path ask: values, and what is set by being present.
-#[derive(Drop)]
+#[derive(Clone, Copy)]
 pub enum LoginQuery {
     Malformed,
     Given {
@@ -45,7 +47,7 @@ pub enum LoginQuery {
     },
 }
 
-#[derive(Drop)]
+#[derive(Clone, Copy)]
 pub enum LoginBody {
     Malformed,
     Given {
@@ -56,13 +58,13 @@ pub enum LoginBody {
     },
 }
 
-#[derive(Drop)]
+#[derive(Clone, Copy)]
 pub enum LogoutQuery {
     Malformed,
     Given { url: Value },
 }
 
-#[derive(Drop)]
+#[derive(Clone, Copy)]
 pub enum ValidatorQuery {
     Malformed,
     Given {
@@ -73,7 +75,7 @@ pub enum ValidatorQuery {
     },
 }
 
-#[derive(Drop)]
+#[derive(Clone, Copy)]
 pub enum ProxyQuery {
     Malformed,
     Given { pgt: Value, target: Value },

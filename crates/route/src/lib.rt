@@ -1,4 +1,6 @@
 // A request by its method and path: each path's own step, an unknown path 404, POST to another path than login 405.
+#![tactic(auto)]
+
 ghost use Rattle.std.specs.Prelude.{false, ◌≤◌, length};
 ghost use Rattle.protocol.specs.Table.{decode_table};
 ghost use Rattle.protocol.specs.Request.{get_request, post_request, request_of};

@@ -1,8 +1,10 @@
 // The nine calls: format a table, check a table, keep house, read username and password from a form, answer a request, finish a callback,
 // tell a visit, make a register block, check a register. A host calls these and nothing else. Each takes any bytes: it is refused by
 // number, in the order of the list, and then nothing is written; or it does what the protocol says.
+#![tactic(auto)]
+
 ghost use Rattle.std.specs.Prelude.{◌≡◌, []};
-ghost use Rattle.protocol.specs.Calls.{refused_outcome, numbered, format_of, housekeep_of, check_of, form_read, form_of, inputs, result, answer_of, finish_of};
+ghost use Rattle.protocol.specs.Calls.{refused_outcome, numbered, format_of, housekeep_of, check_of, form_read, form_of, inputs, result_of, answer_of, finish_of};
 ghost use Rattle.protocol.specs.Visits.{visit_read, visit_of};
 ghost use Rattle.protocol.specs.Panels.{made, panel_of, fault_of};
 
@@ -10,7 +12,7 @@ use protocol::{Answer, Fault, Form, Method, Outcome, Visit};
 
 // A refused call's result: its number, all else 0.
 fn refused(number: u32) -> Outcome
-    ensures* { λ r. ⌜ r ≡ refused_outcome number ⌝ }
+    ensures { result ≡ refused_outcome number }
 {
     Outcome {
         refusal: number,
@@ -25,7 +27,7 @@ fn refused(number: u32) -> Outcome
 
 // A fresh table, whatever the bytes were: the refusal's number, else 0.
 pub fn format(table: &mut [u8], time: u64) -> u32
-    ensures* { λ r. ⌜ numbered r table.new ≡ format_of table.old time ⌝ }
+    ensures { numbered result table.new ≡ format_of table.old time }
 {
     let number = refusal::of_format(table.len(), time);
     if number != 0 {
@@ -37,7 +39,7 @@ pub fn format(table: &mut [u8], time: u64) -> u32
 
 // The clock moved, and every record that is dead by then freed: the refusal's number, else 0.
 pub fn housekeep(table: &mut [u8], time: u64) -> u32
-    ensures* { λ r. ⌜ numbered r table.new ≡ housekeep_of table.old time ⌝ }
+    ensures { numbered result table.new ≡ housekeep_of table.old time }
 {
     let number = refusal::of_housekeep(table, time);
     if number != 0 {
@@ -49,14 +51,14 @@ pub fn housekeep(table: &mut [u8], time: u64) -> u32
 
 // Whether a table is lawful: 0, else the refusal's number.
 pub fn check(table: &[u8]) -> u32
-    ensures* { λ r. ⌜ r ≡ check_of table.now ⌝ }
+    ensures { result ≡ check_of table.now }
 {
     refusal::of_check(table)
 }
 
 // Username and password of a login body, for the host to judge.
 pub fn read_form(body: &[u8], username: &mut [u8], password: &mut [u8]) -> Form
-    ensures* { λ r. ⌜ form_read r username.new password.new ≡ form_of body.now username.old password.old ⌝ }
+    ensures { form_read result username.new password.new ≡ form_of body.now username.old password.old }
 {
     form::read_form(body, username, password)
 }
@@ -75,9 +77,9 @@ pub fn answer(
     out: &mut [u8],
     cookie_out: &mut [u8],
 ) -> Outcome
-    ensures* { λ r. ⌜ result r table.new out.new cookie_out.new
+    ensures { result_of result table.new out.new cookie_out.new
         ≡ answer_of (inputs table.old register.now method target.now body.now cookie.now time
-        random.now verdict out.old cookie_out.old) ⌝ }
+        random.now verdict out.old cookie_out.old) }
 {
     let number = refusal::of_answer(
         table,
@@ -100,7 +102,7 @@ pub fn answer(
 
 // The outcome of the callback of a serial, yes only after a good certificate and a 200.
 pub fn finish(table: &mut [u8], serial: u32, outcome: bool, time: u64, out: &mut [u8]) -> Outcome
-    ensures* { λ r. ⌜ result r table.new out.new [] ≡ finish_of table.old serial outcome time out.old ⌝ }
+    ensures { result_of result table.new out.new [] ≡ finish_of table.old serial outcome time out.old }
 {
     let number = refusal::of_finish(table, time, out.len());
     if number != 0 {
@@ -119,8 +121,8 @@ pub fn visit(
     random: &[u8],
     out: &mut [u8],
 ) -> Visit
-    ensures* { λ r. ⌜ visit_read r table.now out.new
-        ≡ visit_of table.now cookie.now number time random.now out.old ⌝ }
+    ensures { visit_read result table.now out.new
+        ≡ visit_of table.now cookie.now number time random.now out.old }
 {
     let refusal = refusal::of_visit(table, time, random.len(), out.len());
     if refusal != 0 {
@@ -131,14 +133,14 @@ pub fn visit(
 
 // The register block of a service and a callback, check included: the refusal's number, else 0.
 pub fn panel(service: &[u8], callback: &[u8], block: &mut [u8]) -> u32
-    ensures* { λ r. ⌜ made r block.new ≡ panel_of service.now callback.now block.old ⌝ }
+    ensures { made result block.new ≡ panel_of service.now callback.now block.old }
 {
     register::panel(service, callback, block)
 }
 
 // Whether a register is lawful: 0, else the refusal's number and the first block at fault.
 pub fn check_register(register: &[u8]) -> Fault
-    ensures* { λ r. ⌜ r ≡ fault_of register.now ⌝ }
+    ensures { result ≡ fault_of register.now }
 {
     register::check(register)
 }

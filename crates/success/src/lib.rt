@@ -1,4 +1,6 @@
 // A success told with its proxies: the callbacks from a grant to its parents, newest first, the depth falling by one.
+#![tactic(auto)]
+
 ghost use Rattle.protocol.specs.Table.{decode_table};
 ghost use Rattle.protocol.specs.Answers.{proxy_lines, proxies_text};
 ghost use Rattle.protocol.specs.Steps.{chain_from, chain_of, success_of};

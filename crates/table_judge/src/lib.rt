@@ -1,5 +1,7 @@
 // The ticket table judged by every rule: its shape, the header and each record by itself, the session and the parent that
 // a record names, serials that differ, and the count of logins. One pass over the blocks; serials are compared in pairs.
+#![tactic(auto)]
+
 ghost use Rattle.std.specs.Prelude.{◌≡◌, true, ◌+◌, ◌-◌, ◌*◌, ◌≤◌, ◌<◌, length};
 ghost use Rattle.protocol.specs.Table.{serial_taken, table_shape, table_lawful, last_time};
 ghost use Rattle.table.specs.Parts.{fields_of};

@@ -1,5 +1,7 @@
 // The rules that one block of the ticket table keeps by itself: the header, and a record. Each answer is protocol's own
 // test of the record that the block says, and whether the 508 bytes are that record's.
+#![tactic(auto)]
+
 ghost use Rattle.std.specs.Prelude.{◌≡◌, ◌+◌, ◌≤◌, ◌<◌, length};
 ghost use Rattle.protocol.specs.Records.{decode_rec, serial_right, letters_right};
 ghost use Rattle.protocol.specs.Table.{last_time};

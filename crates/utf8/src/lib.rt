@@ -1,12 +1,14 @@
 // Names judged a byte at a time, by the ranges of well-formed UTF-8 (RFC 3629, section 4) without the controls of ASCII.
 // The state says what may come next, so that a text can also be judged while it is decoded.
+#![tactic(auto)]
+
 ghost use Rattle.std.specs.Prelude.{◌≡◌};
 ghost use Rattle.protocol.specs.Utf8.{name_right};
 ghost use Rattle.utf8.specs.Machine.{begun, tailed, followed, is_start};
 
 // What may come next: a first byte, or the end; a byte from the first number to the second, and as many plain tails
 // (80 to BF) after it as the third says; nothing, since what came is in no name.
-#[derive(Drop)]
+#[derive(Clone, Copy)]
 pub enum Next {
     Start,
     Tail(usize, usize, usize),

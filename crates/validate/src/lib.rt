@@ -1,5 +1,7 @@
 // The validators: /cas/validate, /cas/serviceValidate and /cas/proxyValidate. The request is read before anything is spent,
 // then the ticket is shown with its values where they lie.
+#![tactic(auto)]
+
 ghost use Rattle.protocol.specs.Table.{decode_table};
 ghost use Rattle.protocol.specs.Request.{shown};
 ghost use Rattle.protocol.specs.Steps.{validate};

@@ -1,6 +1,8 @@
 // Bytes out: XML. Failures and proxy tickets are written from the start of the output; a success in parts, since its proxies
 // are told by a walk from grant to parent. The rest of the output is left as it was. A text is put in pieces by small functions:
 // the literals of functions that are called one after the other take the same place of the stack.
+#![tactic(auto)]
+
 ghost use Rattle.std.specs.Prelude.{◌≤◌, length};
 ghost use Rattle.protocol.specs.Answers.{reply_text, code_text, mark_text, Failure, ProxySuccess, ProxyFailure};
 ghost use Rattle.protocol.specs.Table.{last_time};
@@ -10,7 +12,7 @@ ghost use Rattle.xml.specs.Response.{response_open, response_close, failure_open
 ghost use Rattle.xml.specs.Success.{success_user, date_part, token_line, login_part, attribute_parts, iou_line, success_head, success_tail, proxies_open, proxies_close, proxy_line};
 
 // Why a ticket is not accepted.
-#[derive(Drop)]
+#[derive(Clone, Copy)]
 pub enum Code {
     InvalidRequest,
     InvalidTicket,
