@@ -66,7 +66,7 @@ hidden_service (b ∷ s) z = refl
 
 module _ (d s : List ℕ) (at : ℕ) where
   pub no_service : Room d at (service_input s) → length s ≡ 0 → Wrote d at d at (service_input s)
-  no_service r z = no_line d _ s _ at z (omega (arith, r.fits))
+  no_service r z = no_line d (ascii "<input name=\"service\" type=\"hidden\" value=\"") s (ascii "\">\n") at z (omega (arith, r.fits))
 
   module _ (z : length s ≡ 0 → ⊥) where
     pub service_room : Room d at (service_input s) → Room d at (hidden_input (ascii "service") s)

@@ -111,11 +111,11 @@ iou_pieces iou = ascii "    <cas:proxyGrantingTicket>" ∷ escaped iou ∷ ascii
 
 module _ (d iou : List ℕ) (at : ℕ) (r : Room d at (iou_line iou)) where
   pub no_iou : length iou ≡ 0 → Wrote d at d at (iou_line iou)
-  no_iou z = no_line d _ iou _ at z (omega (arith, r.fits))
+  no_iou z = no_line d (ascii "    <cas:proxyGrantingTicket>") iou (ascii "</cas:proxyGrantingTicket>\n") at z (omega (arith, r.fits))
 
   module _ (z : length iou ≡ 0 → ⊥) where
     iou_room : Room d at (joined (iou_pieces iou))
-    iou_room = room_as (line-pieces _ iou _ z) r
+    iou_room = room_as (line-pieces (ascii "    <cas:proxyGrantingTicket>") iou (ascii "</cas:proxyGrantingTicket>\n") z) r
 
     pub iou_open : Room d at (ascii "    <cas:proxyGrantingTicket>")
     iou_open = piece_1 _ _ _ _ iou_room
@@ -129,7 +129,7 @@ module _ (d iou : List ℕ) (at : ℕ) (r : Room d at (iou_line iou)) where
         iou_close = piece_3 _ _ _ _ _ _ iou_room e to w f n v
 
         pub iou_wrote : (g : List ℕ) (m : ℕ) → Wrote f n g m (ascii "</cas:proxyGrantingTicket>\n") → Wrote d at g m (iou_line iou)
-        iou_wrote g m u = wrote_as (sym (line-pieces _ iou _ z)) (search (last_piece, more_pieces))
+        iou_wrote g m u = wrote_as (sym (line-pieces (ascii "    <cas:proxyGrantingTicket>") iou (ascii "</cas:proxyGrantingTicket>\n") z)) (search (last_piece, more_pieces))
 
 -- its head
 head_text : (user : List ℕ) (since mark : ℕ) (iou : List ℕ) → success_head user since mark iou ≡ joined (success_user user ∷ attribute_parts since mark ∷ iou_line iou ∷ [])

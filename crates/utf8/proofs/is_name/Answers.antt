@@ -1,0 +1,15 @@
+-- Invariant: what is left, judged from the state, decides. Assumes nothing.
+use borrow.Author.Rules.{rules}
+use Prim.Native.Nat.{◌-◌}
+use Rattle.utf8.proofs.Laws.{name_turn, name_done}
+use Rattle.utf8.proofs.Join.{judged_name_lem}
+use Rattle.utf8.proofs.is_name.Goals as goal
+
+pub loop-i-init : goal.loop-i-init
+loop-i-init c = judged_name_lem _
+
+pub loop-i-preserved : goal.loop-i-preserved
+loop-i-preserved c = search (rules, name_turn)
+
+pub returns : goal.returns
+returns c = search (rules, name_done)

@@ -1,0 +1,25 @@
+-- The end of a failure's element, in pieces.
+use borrow.Author.Rules.{rules}
+use Rattle.text.proofs.Pieces.{piece_1, piece_2, piece_3, last_piece, more_pieces}
+use Rattle.xml.specs.Response.{failure_close}
+use Rattle.xml.proofs.put_failure_close.Goals as goal
+
+pub put_bytes-name-requires : goal.put_bytes-name-requires
+unfolding failure_close
+put_bytes-name-requires c = search piece_1
+
+pub put_bytes-to-requires : goal.put_bytes-to-requires
+unfolding failure_close
+put_bytes-to-requires c = search piece_2
+
+pub put_bytes-requires : goal.put_bytes-requires
+unfolding failure_close
+put_bytes-requires c = search piece_3
+
+pub shape_of-out : goal.shape_of-out
+unfolding failure_close
+shape_of-out c = search rules
+
+pub returns : goal.returns
+unfolding failure_close
+returns c = search (last_piece, more_pieces)
