@@ -1,0 +1,20 @@
+-- What is left decides. Assumes nothing.
+use borrow.Author.Rules.{rules}
+use Prim.Native.Nat.{◌-◌}
+use Rattle.register.proofs.Laws.{look_start, look_inside, look_hit, look-next, look_none}
+use Rattle.known.proofs.place_of.Goals as goal
+
+pub loop-k-init : goal.loop-k-init
+loop-k-init c = search (rules, look_start)
+
+pub service_at-requires : goal.service_at-requires
+service_at-requires c = search (rules, look_inside)
+
+pub returns-then-is_text : goal.returns-then-is_text
+returns-then-is_text c = search (rules, look_hit)
+
+pub loop-k-preserved : goal.loop-k-preserved
+loop-k-preserved c = search (rules, look-next)
+
+pub returns : goal.returns
+returns c = search (rules, look_none)

@@ -1,0 +1,5 @@
+-- The depth falls.
+use Rattle.success.proofs.+put_chain.Given as goal
+
+abbrev pub decreases-put_chain : goal.decreases-put_chain
+decreases-put_chain l = l.depth
