@@ -1,0 +1,10 @@
+-- By the outcome.
+use borrow.Author.Rules.{rules}
+use Rattle.finish.proofs.Laws.{settled_yes, settled_no}
+use Rattle.finish.proofs.settle.Goals as goal
+
+pub returns-then-outcome : goal.returns-then-outcome
+returns-then-outcome c = search (rules, settled_yes)
+
+pub returns : goal.returns
+returns c = search (rules, settled_no)

@@ -1,0 +1,31 @@
+-- Each refusal in its turn, then what was read. Assumes nothing.
+use borrow.Author.Rules.{rules}
+use Rattle.form.proofs.Laws.{short_username, short_password, long_body, bad_body, no_username, no_password, username_fits, password_fits, form_read_lem}
+use Rattle.form.proofs.read_form.Goals as goal
+
+pub returns-then-username-lt-SHORT : goal.returns-then-username-lt-SHORT
+returns-then-username-lt-SHORT c = search (rules, short_username)
+
+pub returns-then-password-lt-PASSWORD : goal.returns-then-password-lt-PASSWORD
+returns-then-password-lt-PASSWORD c = search (rules, short_password)
+
+pub returns-then-body-gt-BODY : goal.returns-then-body-gt-BODY
+returns-then-body-gt-BODY c = search (rules, long_body)
+
+pub returns-in_default : goal.returns-in_default
+returns-in_default c = search (rules, bad_body)
+
+pub returns-then-user-eq0 : goal.returns-then-user-eq0
+returns-then-user-eq0 c = search (rules, no_username)
+
+pub returns-then-word-eq0 : goal.returns-then-word-eq0
+returns-then-word-eq0 c = search (rules, no_password)
+
+pub read_credentials-requires-clause-readable : goal.read_credentials-requires-clause-readable
+read_credentials-requires-clause-readable c = search (rules, username_fits, password_fits)
+
+pub read_credentials-requires-clause-readable_2 : goal.read_credentials-requires-clause-readable_2
+read_credentials-requires-clause-readable_2 c = search (rules, username_fits, password_fits)
+
+pub returns : goal.returns
+returns c = search (rules, form_read_lem)

@@ -1,0 +1,13 @@
+-- The ticket that is found is spent.
+use borrow.Author.Rules.{rules}
+use Rattle.present.proofs.Laws.{found_spendable, presented_at, presented_none}
+use Rattle.present.proofs.show.Goals as goal
+
+pub spend-requires : goal.spend-requires
+spend-requires c = search (rules, found_spendable)
+
+pub returns-in-At : goal.returns-in-At
+returns-in-At c = search (rules, presented_at)
+
+pub returns-in-Nothing : goal.returns-in-Nothing
+returns-in-Nothing c = search (rules, presented_none)
