@@ -1,5 +1,4 @@
 -- What was found of the bytes before i, and the test of what is left, are that of the whole.
-use Prim.Native.Nat.{◌-◌}
 use Rattle.block.proofs.Within.{pass_start, pass-next, pass_all}
 use Rattle.block.proofs.all_within.Goals as goal
 

@@ -1,6 +1,5 @@
 -- The last i bytes are read; their number is so far the result.
 use native.Mathlib.Omega.{arith}
-use Prim.Native.Nat.{◌-◌}
 use Rattle.block.proofs.Laws.{got_none, got_more, got_room, got_all, got_below}
 use Rattle.block.proofs.get.Goals as goal
 

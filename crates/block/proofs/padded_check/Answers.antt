@@ -1,6 +1,5 @@
 -- The definition's sums over what is left, from the reduced sums so far, are those of the whole.
 use mathlib.Core.Path.{refl, sym, ◌∙◌}
-use Prim.Native.Nat.{◌≤◌, ◌*◌, ◌-◌}
 use native.Mathlib.Omega.{arith}
 use Rattle.protocol.specs.Blocks.{house_check}
 use Rattle.block.proofs.Sums.{sums_turn, sums_done, growth_low}

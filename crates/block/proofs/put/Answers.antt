@@ -1,7 +1,7 @@
 -- Stores one after the other: what is left to store is the rest of the number's bytes.
 use native.Mathlib.Nat.{add-zero, sub-zero}
 use mathlib.Core.Path.{refl, sym, ◌∙◌}
-use Prim.Native.Nat.{◌+◌, ◌-◌}
+use Prim.Native.Nat.{◌+◌}
 use native.Mathlib.Omega.{arith}
 use lib.ListN.{length-set}
 use Rattle.protocol.specs.Bytes.{bytes_of}

@@ -1,6 +1,5 @@
 -- The months of a year: what is left to count at each turn is the whole.
 use borrow.Author.Rules.{rules}
-use Prim.Native.Nat.{◌-◌}
 use Rattle.calendar.proofs.Months.{count_start, count_found, count_on, count_december}
 use Rattle.calendar.proofs.month_of.Goals as goal
 

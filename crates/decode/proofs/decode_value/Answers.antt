@@ -1,6 +1,5 @@
 -- Invariant: what is left to write is what is left to decode, and its bytes are bytes. Assumes nothing.
 use borrow.Author.Rules.{rules}
-use Prim.Native.Nat.{◌-◌}
 use Rattle.text.proofs.Splice.{left_start}
 use Rattle.decode.proofs.Laws.{write_small, write_room, write_turn, write_right, write_done}
 use Rattle.decode.proofs.decode_value.Goals as goal

@@ -1,6 +1,5 @@
 -- Invariant: whether what is left of both is the same says whether they are. Assumes nothing.
 use borrow.Author.Rules.{rules}
-use Prim.Native.Nat.{◌-◌}
 use Rattle.decode.proofs.Laws.{text_short, text_differs, text_turn, text_done}
 use Rattle.decode.proofs.is_text.Goals as goal
 

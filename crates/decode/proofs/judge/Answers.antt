@@ -1,6 +1,5 @@
 -- Invariant: what was passed is right, so that what is left decides, and so many bytes were passed. Assumes nothing.
 use borrow.Author.Rules.{rules}
-use Prim.Native.Nat.{◌-◌}
 use Rattle.decode.proofs.Laws.{judge_good, judge-long, judge_low, judge_high, judge_right, judge-count}
 use Rattle.decode.proofs.judge.Goals as goal
 

@@ -1,6 +1,5 @@
 -- Invariant: the state and what is left decide, and so many bytes were passed. Assumes nothing.
 use borrow.Author.Rules.{rules}
-use Prim.Native.Nat.{◌-◌}
 use Rattle.decode.proofs.Laws.{name_start, name_turn, name_count, name_good, name_bad}
 use Rattle.decode.proofs.judge_name.Goals as goal
 

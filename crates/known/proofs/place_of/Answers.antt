@@ -1,6 +1,5 @@
 -- What is left decides. Assumes nothing.
 use borrow.Author.Rules.{rules}
-use Prim.Native.Nat.{◌-◌}
 use Rattle.register.proofs.Laws.{look_start, look_inside, look_hit, look-next, look_none}
 use Rattle.known.proofs.place_of.Goals as goal
 

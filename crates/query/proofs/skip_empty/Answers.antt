@@ -1,6 +1,5 @@
 -- Invariant: the `&` that lead are those passed and those that lead what is left. Assumes nothing.
 use borrow.Author.Rules.{rules}
-use Prim.Native.Nat.{◌-◌}
 use Rattle.query.proofs.Pieces.{skip_on, skip_stop, skip_end}
 use Rattle.query.proofs.skip_empty.Goals as goal
 

@@ -1,6 +1,5 @@
 -- Invariant: what was noted of each name, and the pieces that are left, say what the whole query says. Assumes nothing.
 use borrow.Author.Rules.{rules}
-use Prim.Native.Nat.{◌-◌}
 use Rattle.query.proofs.Laws.{noting_start, walked, name_starts, name_ends, goes_on, count_fits, noting_turn}
 use Rattle.query.proofs.walk.Goals as goal
 

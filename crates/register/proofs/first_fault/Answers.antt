@@ -1,6 +1,5 @@
 -- The first of what is left is the first of all. Assumes nothing.
 use borrow.Author.Rules.{rules}
-use Prim.Native.Nat.{◌-◌}
 use Rattle.register.proofs.Laws.{seek_start, seek_inside, seek_hit, seek_next, seek_none}
 use Rattle.register.proofs.first_fault.Goals as goal
 

@@ -1,6 +1,5 @@
 -- What is left to search is as good as the whole.
 use Rattle.table_judge.proofs.Slots.{slot_in, untaken_start, untaken_next, untaken_not, untaken_all}
-use Prim.Native.Nat.{◌-◌}
 use Rattle.table_judge.proofs.serial_taken.Goals as goal
 
 pub loop-j-init : goal.loop-j-init

@@ -1,6 +1,5 @@
 -- The slots before k passed.
 use Rattle.table_judge.proofs.Slots.{passed_start, passed_next, passed_not, passed_all}
-use Prim.Native.Nat.{◌-◌}
 use Rattle.table_judge.proofs.slots_right.Goals as goal
 
 pub loop-k-init : goal.loop-k-init

@@ -1,6 +1,5 @@
 -- Invariant: what is left, judged from the state, decides. Assumes nothing.
 use borrow.Author.Rules.{rules}
-use Prim.Native.Nat.{◌-◌}
 use Rattle.utf8.proofs.Laws.{name_turn, name_done}
 use Rattle.utf8.proofs.Join.{judged_name_lem}
 use Rattle.utf8.proofs.is_name.Goals as goal
