@@ -7,9 +7,11 @@ mod script;
 mod shown;
 mod words;
 
-fn main() {
+use std::io;
+
+fn main(rt: HostRuntime) -> io::Result<()> {
     let mut script = [0u8; 65536];
     let register = panels::register();
-    let n = io::read_full(0, &mut script);
-    script::run(&script[..n], &register);
+    let n = lent::read_full(&mut rt.stdin(), &mut script)?;
+    script::run(&mut rt.stdout(), &script[..n], &register)
 }

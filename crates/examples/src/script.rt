@@ -15,48 +15,55 @@
 use super::shown::{newline, show_form, show_outcome, show_refusal, show_visit};
 use super::words::{front, number, place_of, word};
 use protocol::Method;
+use std::io;
+use std::io::Write;
 
 const RANDOM: [u8; 48] =
     *b"\xa1\xa1\xa1\xa1\xa1\xa1\xa1\xa1\xa1\xa1\xa1\xa1\xa1\xa1\xa1\xa1\xb2\xb2\xb2\xb2\xb2\xb2\xb2\xb2\xb2\xb2\xb2\xb2\xb2\xb2\xb2\xb2\xc3\xc3\xc3\xc3\xc3\xc3\xc3\xc3\xc3\xd4\xd4\xd4\xd4\xd4\xd4\xd4";
 
-pub fn run(script: &[u8], register: &[u8]) {
+pub fn run(output: &mut impl Write, script: &[u8], register: &[u8]) -> io::Result<()> {
     let mut table = [0u8; 4608];
     let mut at = 0;
     while at < script.len() {
         let n = place_of(&script[at..], b'\n');
         let end = at + n;
-        let after = step(&script[at..end], table, register);
-        table = after;
+        table = step(output, &script[at..end], table, register)?;
         if end == script.len() {
-            return;
+            return Ok(());
         }
         at = end + 1;
     }
+    Ok(())
 }
 
-fn echo(line: &[u8]) {
-    io::write_all(1, b"> ");
-    io::write_all(1, line);
-    newline();
+fn echo(output: &mut impl Write, line: &[u8]) -> io::Result<()> {
+    output.write_all(b"> ")?;
+    output.write_all(line)?;
+    newline(output)
 }
 
 // The table after the line's call.
-fn step(line: &[u8], table: [u8; 4608], register: &[u8]) -> [u8; 4608] {
-    echo(line);
+fn step(
+    output: &mut impl Write,
+    line: &[u8],
+    table: [u8; 4608],
+    register: &[u8],
+) -> io::Result<[u8; 4608]> {
+    echo(output, line)?;
     if line.len() == 0 {
-        return table;
+        return Ok(table);
     }
     let letter = line[0];
     match letter {
-        b'n' => format(line, table),
-        b'c' => check(table),
-        b'h' => housekeep(line, table),
-        b'g' => get(line, table, register),
-        b'p' => post(line, table, register),
-        b'f' => finish(line, table),
-        b'r' => read(line, table),
-        b'v' => visit(line, table),
-        _ => table,
+        b'n' => format(output, line, table),
+        b'c' => check(output, table),
+        b'h' => housekeep(output, line, table),
+        b'g' => get(output, line, table, register),
+        b'p' => post(output, line, table, register),
+        b'f' => finish(output, line, table),
+        b'r' => read(output, line, table),
+        b'v' => visit(output, line, table),
+        _ => Ok(table),
     }
 }
 
@@ -66,28 +73,29 @@ fn time_of(line: &[u8]) -> u64 {
 
 // The host says yes.
 fn is_yes(line: &[u8]) -> bool {
-    check::same(word(line, 2), b"yes")
+    word(line, 2) == b"yes".as_slice()
 }
 
-fn format(line: &[u8], table: [u8; 4608]) -> [u8; 4608] {
+fn format(output: &mut impl Write, line: &[u8], table: [u8; 4608]) -> io::Result<[u8; 4608]> {
     let mut after = table;
-    show_refusal(signon::format(&mut after, time_of(line)));
-    after
+    show_refusal(output, signon::format(&mut after, time_of(line)))?;
+    Ok(after)
 }
 
-fn check(table: [u8; 4608]) -> [u8; 4608] {
-    show_refusal(signon::check(&table));
-    table
+fn check(output: &mut impl Write, table: [u8; 4608]) -> io::Result<[u8; 4608]> {
+    show_refusal(output, signon::check(&table))?;
+    Ok(table)
 }
 
-fn housekeep(line: &[u8], table: [u8; 4608]) -> [u8; 4608] {
+fn housekeep(output: &mut impl Write, line: &[u8], table: [u8; 4608]) -> io::Result<[u8; 4608]> {
     let mut after = table;
-    show_refusal(signon::housekeep(&mut after, time_of(line)));
-    after
+    show_refusal(output, signon::housekeep(&mut after, time_of(line)))?;
+    Ok(after)
 }
 
 // The table after a request.
 fn ask(
+    output: &mut impl Write,
     method: Method,
     target: &[u8],
     body: &[u8],
@@ -96,7 +104,7 @@ fn ask(
     verdict: bool,
     table: [u8; 4608],
     register: &[u8],
-) -> [u8; 4608] {
+) -> io::Result<[u8; 4608]> {
     let mut after = table;
     let mut out = [0u8; 8192];
     let mut cookie_out = [0u8; 64];
@@ -113,15 +121,21 @@ fn ask(
         &mut out,
         &mut cookie_out,
     );
-    show_outcome(o, &out, &cookie_out);
-    after
+    show_outcome(output, o, &out, &cookie_out)?;
+    Ok(after)
 }
 
-fn get(line: &[u8], table: [u8; 4608], register: &[u8]) -> [u8; 4608] {
+fn get(
+    output: &mut impl Write,
+    line: &[u8],
+    table: [u8; 4608],
+    register: &[u8],
+) -> io::Result<[u8; 4608]> {
     let target = word(line, 2);
     let cookie = word(line, 3);
     let no_body = front(line, 0);
     ask(
+        output,
         Method::Get,
         target,
         no_body,
@@ -133,11 +147,17 @@ fn get(line: &[u8], table: [u8; 4608], register: &[u8]) -> [u8; 4608] {
     )
 }
 
-fn post(line: &[u8], table: [u8; 4608], register: &[u8]) -> [u8; 4608] {
+fn post(
+    output: &mut impl Write,
+    line: &[u8],
+    table: [u8; 4608],
+    register: &[u8],
+) -> io::Result<[u8; 4608]> {
     let target = word(line, 3);
     let body = word(line, 4);
     let cookie = word(line, 5);
     ask(
+        output,
         Method::Post,
         target,
         body,
@@ -149,7 +169,7 @@ fn post(line: &[u8], table: [u8; 4608], register: &[u8]) -> [u8; 4608] {
     )
 }
 
-fn finish(line: &[u8], table: [u8; 4608]) -> [u8; 4608] {
+fn finish(output: &mut impl Write, line: &[u8], table: [u8; 4608]) -> io::Result<[u8; 4608]> {
     let mut after = table;
     let mut out = [0u8; 8192];
     let serial = number(word(line, 3)) % 4294967296;
@@ -161,19 +181,19 @@ fn finish(line: &[u8], table: [u8; 4608]) -> [u8; 4608] {
         &mut out,
     );
     let no_cookie = front(line, 0);
-    show_outcome(o, &out, no_cookie);
-    after
+    show_outcome(output, o, &out, no_cookie)?;
+    Ok(after)
 }
 
-fn read(line: &[u8], table: [u8; 4608]) -> [u8; 4608] {
+fn read(output: &mut impl Write, line: &[u8], table: [u8; 4608]) -> io::Result<[u8; 4608]> {
     let mut username = [0u8; 64];
     let mut password = [0u8; 128];
     let form = signon::read_form(word(line, 1), &mut username, &mut password);
-    show_form(form, &username, &password);
-    table
+    show_form(output, form, &username, &password)?;
+    Ok(table)
 }
 
-fn visit(line: &[u8], table: [u8; 4608]) -> [u8; 4608] {
+fn visit(output: &mut impl Write, line: &[u8], table: [u8; 4608]) -> io::Result<[u8; 4608]> {
     let mut out = [0u8; 8192];
     let which = number(word(line, 2)) % 4294967296;
     let v = signon::visit(
@@ -184,6 +204,6 @@ fn visit(line: &[u8], table: [u8; 4608]) -> [u8; 4608] {
         &RANDOM,
         &mut out,
     );
-    show_visit(v, &out);
-    table
+    show_visit(output, v, &out)?;
+    Ok(table)
 }

@@ -1,6 +1,6 @@
 // A line of words with a space between each, taken apart.
 ghost use Rattle.std.specs.Prelude.{◌<◌};
-ghost use Rattle.io.specs.Counts.{IsPrefixLen};
+ghost use Rattle.lent.specs.Counts.{IsPrefixLen};
 
 // The place of the first b, or the text's length where there is none.
 pub fn place_of(s: &[u8], b: u8) -> usize

@@ -1,11 +1,28 @@
-// What the programs that read frames share: parts of lent buffers, the fields of a frame, and the frame of an answer. Every place is taken
-// as far as the buffer goes.
+// What the programs that read frames share: input read into a lent buffer, parts of lent buffers, the fields of a frame, and the frame of an
+// answer. Every place is taken as far as the buffer goes.
 #![tactic(auto)]
 
-ghost use Rattle.std.specs.Prelude.{◌≡◌, ◌+◌, ◌≤◌, length, take};
-ghost use Rattle.io.specs.Counts.{IsPrefixLen};
+ghost use Rattle.std.specs.Prelude.{◌≡◌, ◌+◌, ◌≤◌, length, take, IfOk};
+ghost use Rattle.lent.specs.Counts.{IsPrefixLen};
 
 use protocol::{Method, Outcome};
+use std::io;
+use std::io::Read;
+
+// Reads until buf is full or the input ends: how many bytes were put at its start.
+pub fn read_full(input: &mut impl Read, buf: &mut [u8]) -> io::Result<usize>
+    ensures { IfOk result (λ n. IsPrefixLen n buf.new) }
+{
+    let mut done = 0;
+    while done < buf.len() {
+        let n = input.read(&mut buf[done..])?;
+        if n == 0 {
+            break;
+        }
+        done += n;
+    }
+    Ok(done)
+}
 
 // The smaller of n and the number of buf's bytes.
 pub fn within(n: u64, buf: &[u8]) -> usize

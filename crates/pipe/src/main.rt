@@ -53,6 +53,8 @@ use frame_out::reply_end;
 use housekeep_frame::housekeep;
 use lent::{CUT, byte};
 use panel_frame::panel;
+use std::io;
+use std::io::{Read, Write};
 use table_frames::{check, format, load, read_back, take_register};
 use visit_frame::visit;
 
@@ -101,13 +103,21 @@ fn unknown(out: &mut [u8; 131072]) -> Held {
     stop(reply_end(out, b"the frame is unknown"))
 }
 
-fn main() {
+fn main(rt: HostRuntime) -> io::Result<()> {
     let mut table = [0u8; 65536];
     let mut old = [0u8; 65536];
     let mut register = [0u8; 8704];
     let mut frame = [0u8; 131072];
     let mut out = [0u8; 131072];
-    run(&mut table, &mut old, &mut register, &mut frame, &mut out);
+    run(
+        &mut rt.stdin(),
+        &mut rt.stdout(),
+        &mut table,
+        &mut old,
+        &mut register,
+        &mut frame,
+        &mut out,
+    )
 }
 
 fn frames_left(left: u64, more: bool) -> u64
@@ -122,12 +132,14 @@ fn frames_left(left: u64, more: bool) -> u64
 
 // At most 2^40 frames, so that the program ends.
 fn run(
+    input: &mut impl Read,
+    output: &mut impl Write,
     table: &mut [u8],
     old: &mut [u8; 65536],
     register: &mut [u8; 8704],
     frame: &mut [u8; 131072],
     out: &mut [u8; 131072],
-)
+) -> io::Result<()>
     requires { length table.old ≡ 65536 }
 {
     let mut held = Held {
@@ -138,64 +150,67 @@ fn run(
     };
     let mut left: u64 = 1099511627776;
     while 0 < left {
-        held = step(held, table, old, register, frame, out);
+        held = step(input, output, held, table, old, register, frame, out)?;
         left = frames_left(left, held.more);
     }
+    Ok(())
 }
 
 // What is read of a frame where the input ends before it.
 const NONE: u64 = 8589934592;
 
 // Reads a frame: how many bytes it has, or CUT, or NONE.
-fn read_frame(frame: &mut [u8]) -> u64 {
+fn read_frame(input: &mut impl Read, frame: &mut [u8]) -> io::Result<u64> {
     let mut b = [0u8; 4];
-    let got = io::read_full(0, &mut b);
+    let got = lent::read_full(input, &mut b)?;
     if got == 0 {
-        return NONE;
+        return Ok(NONE);
     }
     if got < 4 {
-        return CUT;
+        return Ok(CUT);
     }
     let n = block::get(&b, 0, 4);
     if lent::lacks(frame, n) {
-        return CUT;
+        return Ok(CUT);
     }
     let end = lent::within(n, frame);
-    let got = io::read_full(0, &mut frame[..end]);
+    let got = lent::read_full(input, &mut frame[..end])?;
     if got < end {
-        return CUT;
+        return Ok(CUT);
     }
-    n
+    Ok(n)
 }
 
 // One frame in, one frame out.
 fn step(
+    input: &mut impl Read,
+    output: &mut impl Write,
     held: Held,
     table: &mut [u8],
     old: &mut [u8; 65536],
     register: &mut [u8; 8704],
     frame: &mut [u8; 131072],
     out: &mut [u8; 131072],
-) -> Held
+) -> io::Result<Held>
     requires { length table.old ≡ 65536 }
 {
-    let n = read_frame(frame);
+    let n = read_frame(input, frame)?;
     if n == NONE {
-        return stop(0);
+        return Ok(stop(0));
     }
     let next = serve(held, table, old, register, lent::part(frame, 0, n), n, out);
-    send(out, next)
+    send(output, out, next)?;
+    Ok(next)
 }
 
-// The frame out, its length before it. Where it cannot be written, there is nobody to go on for.
-fn send(out: &mut [u8; 131072], held: Held) -> Held {
+// The frame out, its length before it. It is flushed, since who asked waits for it before asking again. Where it cannot be written, there is
+// nobody to go on for.
+fn send(output: &mut impl Write, out: &mut [u8; 131072], held: Held) -> io::Result<()> {
     let n = lent::within(held.end as u64, out);
     let length = lent::part(out, 4, n as u64).len();
     block::put(out, 0, 4, length as u64);
-    if io::write_all(1, lent::part(out, 0, n as u64)) {
-        return held;
-    }
-    stop(0)
+    output.write_all(lent::part(out, 0, n as u64))?;
+    output.flush()
 }
 
 fn serve(

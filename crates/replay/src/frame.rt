@@ -1,78 +1,81 @@
-// The fields of a frame, read from standard input.
-ghost use Rattle.std.specs.Prelude.{◌+◌, ◌≤◌};
+// The fields of a frame, read from the input.
+ghost use Rattle.std.specs.Prelude.{◌+◌, ◌≤◌, IfOk};
 
-use lent::CUT;
+use lent::{CUT, read_full};
+use std::io;
+use std::io::Read;
 
 // One byte, or CUT.
-pub fn read_byte() -> u64 {
+pub fn read_byte(input: &mut impl Read) -> io::Result<u64> {
     let mut b = [0u8; 1];
-    let got = io::read_full(0, &mut b);
+    let got = read_full(input, &mut b)?;
     if got < 1 {
-        return CUT;
+        return Ok(CUT);
     }
-    text::wide(b[0])
+    Ok(text::wide(b[0]))
 }
 
 // A number of four bytes, or CUT. Where one is cut, every later one is.
-pub fn read_number() -> u64
-    ensures { result ≤ 4294967296 }
+pub fn read_number(input: &mut impl Read) -> io::Result<u64>
+    ensures { IfOk result (λ n. n ≤ 4294967296) }
 {
     let mut b = [0u8; 4];
-    let got = io::read_full(0, &mut b);
+    let got = read_full(input, &mut b)?;
     if got < 4 {
-        return CUT;
+        return Ok(CUT);
     }
-    block::get(&b, 0, 4)
+    Ok(block::get(&b, 0, 4))
 }
 
-pub fn read_long() -> u64 {
-    let low = read_number();
-    let high = read_number();
-    lent::whole(low, high)
+pub fn read_long(input: &mut impl Read) -> io::Result<u64> {
+    let low = read_number(input)?;
+    let high = read_number(input)?;
+    Ok(lent::whole(low, high))
 }
 
 // So many bytes, put at the start of buf: their number, or CUT where there is no room or the input ends.
-fn read_exactly(buf: &mut [u8], n: u64) -> u64
+fn read_exactly(input: &mut impl Read, buf: &mut [u8], n: u64) -> io::Result<u64>
     requires { n ≤ 4294967296 }
-    ensures { result ≤ 4294967296 }
+    ensures { IfOk result (λ got. got ≤ 4294967296) }
 {
     if lent::lacks(buf, n) {
-        return CUT;
+        return Ok(CUT);
     }
     let end = lent::within(n, buf);
-    let got = io::read_full(0, &mut buf[..end]);
+    let got = read_full(input, &mut buf[..end])?;
     if got < end {
-        return CUT;
+        return Ok(CUT);
     }
-    n
+    Ok(n)
 }
 
 // A field of bytes, put at the start of buf: how many there are, or CUT.
-pub fn read_bytes(buf: &mut [u8]) -> u64
-    ensures { result ≤ 4294967296 }
+pub fn read_bytes(input: &mut impl Read, buf: &mut [u8]) -> io::Result<u64>
+    ensures { IfOk result (λ n. n ≤ 4294967296) }
 {
-    let n = read_number();
-    read_exactly(buf, n)
+    let n = read_number(input)?;
+    read_exactly(input, buf, n)
 }
 
 // So many bytes of a frame, put behind the first `from` of buf: where they end, or more than buf has where they or what is before them is cut.
-pub fn gather(buf: &mut [u8], from: u64, n: u64) -> u64
+pub fn gather(input: &mut impl Read, buf: &mut [u8], from: u64, n: u64) -> io::Result<u64>
     requires { (from ≤ 1099511627776) × (n ≤ 4294967296) }
-    ensures { result ≤ from + 4294967296 }
+    ensures { IfOk result (λ end. end ≤ from + 4294967296) }
 {
     if lent::lacks(buf, from) {
-        return from;
+        return Ok(from);
     }
     let at = lent::within(from, buf);
-    from + read_exactly(&mut buf[at..], n)
+    let got = read_exactly(input, &mut buf[at..], n)?;
+    Ok(from + got)
 }
 
 // A field of bytes with its length before it, in the same way.
-pub fn gather_text(buf: &mut [u8], from: u64) -> u64
+pub fn gather_text(input: &mut impl Read, buf: &mut [u8], from: u64) -> io::Result<u64>
     requires { from ≤ 549755813888 }
-    ensures { result ≤ from + 8589934592 }
+    ensures { IfOk result (λ end. end ≤ from + 8589934592) }
 {
-    let at = gather(buf, from, 4);
+    let at = gather(input, buf, from, 4)?;
     let n = lent::number(buf, from);
-    gather(buf, at, n)
+    gather(input, buf, at, n)
 }

@@ -28,6 +28,8 @@ use answer::answer;
 use frame::{read_byte, read_bytes, read_long, read_number};
 use lent::{CUT, whole};
 use line::{say_finish, say_form, say_table};
+use std::io;
+use std::io::{Read, Write};
 use visit::visit;
 
 // How many bytes table and register have, and whether to go on.
@@ -38,10 +40,10 @@ struct Held {
     more: bool,
 }
 
-fn main() {
+fn main(rt: HostRuntime) -> io::Result<()> {
     let mut table = [0u8; 70000];
     let mut register = [0u8; 65536];
-    run(&mut table, &mut register);
+    run(&mut rt.stdin(), &mut rt.stdout(), &mut table, &mut register)
 }
 
 fn frames_left(left: u64, more: bool) -> u64
@@ -55,7 +57,12 @@ fn frames_left(left: u64, more: bool) -> u64
 }
 
 // At most 2^40 frames, so that the program ends.
-fn run(table: &mut [u8], register: &mut [u8]) {
+fn run(
+    input: &mut impl Read,
+    output: &mut impl Write,
+    table: &mut [u8],
+    register: &mut [u8],
+) -> io::Result<()> {
     let mut held = Held {
         table: 0,
         register: 0,
@@ -63,9 +70,10 @@ fn run(table: &mut [u8], register: &mut [u8]) {
     };
     let mut left: u64 = 1099511627776;
     while 0 < left {
-        held = step(held, table, register);
+        held = step(input, output, held, table, register)?;
         left = frames_left(left, held.more);
     }
+    Ok(())
 }
 
 fn stop() -> Held {
@@ -76,165 +84,233 @@ fn stop() -> Held {
     }
 }
 
-fn cut() -> Held {
-    io::write_all(1, b"the frame is cut or too large\n");
-    stop()
+fn cut(output: &mut impl Write) -> io::Result<Held> {
+    output.write_all(b"the frame is cut or too large\n")?;
+    Ok(stop())
 }
 
-fn unknown() -> Held {
-    io::write_all(1, b"the frame is unknown\n");
-    stop()
+fn unknown(output: &mut impl Write) -> io::Result<Held> {
+    output.write_all(b"the frame is unknown\n")?;
+    Ok(stop())
 }
 
-fn step(held: Held, table: &mut [u8], register: &mut [u8]) -> Held {
-    let got = read_byte();
+fn step(
+    input: &mut impl Read,
+    output: &mut impl Write,
+    held: Held,
+    table: &mut [u8],
+    register: &mut [u8],
+) -> io::Result<Held> {
+    let got = read_byte(input)?;
     if got == CUT {
-        return stop();
+        return Ok(stop());
     }
     let letter = (got % 256) as u8;
     match letter {
-        b'G' => take_register(held, register),
-        b'A' => answer(held, table, register),
-        _ => step_on_table(letter, held, table),
+        b'G' => take_register(input, output, held, register),
+        b'A' => answer(input, output, held, table, register),
+        _ => step_on_table(input, output, letter, held, table),
     }
 }
 
 // The frames that need no register.
-fn step_on_table(letter: u8, held: Held, table: &mut [u8]) -> Held {
+fn step_on_table(
+    input: &mut impl Read,
+    output: &mut impl Write,
+    letter: u8,
+    held: Held,
+    table: &mut [u8],
+) -> io::Result<Held> {
     match letter {
-        b'P' => poke(held, table),
-        b'F' => format(held, table),
-        b'C' => check(held, table),
-        b'K' => housekeep(held, table),
-        b'R' => read_form(held),
-        b'N' => finish(held, table),
-        b'V' => visit(held, table),
-        _ => unknown(),
+        b'P' => poke(input, output, held, table),
+        b'F' => format(input, output, held, table),
+        b'C' => check(output, held, table),
+        b'K' => housekeep(input, output, held, table),
+        b'R' => read_form(input, output, held),
+        b'N' => finish(input, output, held, table),
+        b'V' => visit(input, output, held, table),
+        _ => unknown(output),
     }
 }
 
-fn take_register(held: Held, register: &mut [u8]) -> Held {
-    let n = read_bytes(register);
+fn take_register(
+    input: &mut impl Read,
+    output: &mut impl Write,
+    held: Held,
+    register: &mut [u8],
+) -> io::Result<Held> {
+    let n = read_bytes(input, register)?;
     if lent::lacks(register, n) {
-        return cut();
+        return cut(output);
     }
-    Held {
+    Ok(Held {
         table: held.table,
         register: n,
         more: true,
-    }
+    })
 }
 
-fn poke(held: Held, table: &mut [u8]) -> Held {
+fn poke(
+    input: &mut impl Read,
+    output: &mut impl Write,
+    held: Held,
+    table: &mut [u8],
+) -> io::Result<Held> {
     let mut bytes = [0u8; 65536];
-    let at = read_number();
-    let n = read_bytes(&mut bytes);
+    let at = read_number(input)?;
+    let n = read_bytes(input, &mut bytes)?;
     let size = lent::within(held.table, table);
     if (size as u64) < at + n {
-        return cut();
+        return cut(output);
     }
     let end = lent::within(n, &bytes);
     block::copy_at(table, at as usize, &bytes[..end]);
-    held
+    Ok(held)
 }
 
-fn format(held: Held, table: &mut [u8]) -> Held {
-    let size = read_number();
-    let v = read_byte();
-    let low = read_number();
-    let high = read_number();
+fn format(
+    input: &mut impl Read,
+    output: &mut impl Write,
+    held: Held,
+    table: &mut [u8],
+) -> io::Result<Held> {
+    let size = read_number(input)?;
+    let v = read_byte(input)?;
+    let low = read_number(input)?;
+    let high = read_number(input)?;
     if (high == CUT) | lent::lacks(table, size) {
-        return cut();
+        return cut(output);
     }
     let n = lent::within(size, table);
-    format_call(&mut table[..n], (v % 256) as u8, whole(low, high));
-    Held {
+    format_call(output, &mut table[..n], (v % 256) as u8, whole(low, high))?;
+    Ok(Held {
         table: size,
         register: held.register,
         more: true,
-    }
+    })
 }
 
-fn format_call(table: &mut [u8], v: u8, time: u64) {
+fn format_call(output: &mut impl Write, table: &mut [u8], v: u8, time: u64) -> io::Result<()> {
     lent::fill(table, v);
     let refusal = signon::format(table, time);
-    say_table(b'F', refusal, table);
+    say_table(output, b'F', refusal, table)
 }
 
-fn check(held: Held, table: &[u8]) -> Held {
-    check_call(lent::part(table, 0, held.table));
-    held
+fn check(output: &mut impl Write, held: Held, table: &[u8]) -> io::Result<Held> {
+    check_call(output, lent::part(table, 0, held.table))?;
+    Ok(held)
 }
 
-fn check_call(table: &[u8]) {
+fn check_call(output: &mut impl Write, table: &[u8]) -> io::Result<()> {
     let refusal = signon::check(table);
-    say_table(b'C', refusal, table);
+    say_table(output, b'C', refusal, table)
 }
 
-fn housekeep(held: Held, table: &mut [u8]) -> Held {
-    let low = read_number();
-    let high = read_number();
+fn housekeep(
+    input: &mut impl Read,
+    output: &mut impl Write,
+    held: Held,
+    table: &mut [u8],
+) -> io::Result<Held> {
+    let low = read_number(input)?;
+    let high = read_number(input)?;
     if high == CUT {
-        return cut();
+        return cut(output);
     }
     let n = lent::within(held.table, table);
-    housekeep_call(&mut table[..n], whole(low, high));
-    held
+    housekeep_call(output, &mut table[..n], whole(low, high))?;
+    Ok(held)
 }
 
-fn housekeep_call(table: &mut [u8], time: u64) {
+fn housekeep_call(output: &mut impl Write, table: &mut [u8], time: u64) -> io::Result<()> {
     let refusal = signon::housekeep(table, time);
-    say_table(b'K', refusal, table);
+    say_table(output, b'K', refusal, table)
 }
 
-fn read_form(held: Held) -> Held {
+fn read_form(input: &mut impl Read, output: &mut impl Write, held: Held) -> io::Result<Held> {
     let mut body = [0u8; 65536];
-    let n = read_bytes(&mut body);
+    let n = read_bytes(input, &mut body)?;
     if 65536 < n {
-        return cut();
+        return cut(output);
     }
-    let username = read_number();
-    let password = read_number();
+    let username = read_number(input)?;
+    let password = read_number(input)?;
     if (4096 < username) | (4096 < password) {
-        return cut();
+        return cut(output);
     }
-    read_form_sized(lent::part(&body, 0, n), username, password);
-    held
+    read_form_sized(output, lent::part(&body, 0, n), username, password)?;
+    Ok(held)
 }
 
-fn read_form_sized(body: &[u8], username_size: u64, password_size: u64) {
+fn read_form_sized(
+    output: &mut impl Write,
+    body: &[u8],
+    username_size: u64,
+    password_size: u64,
+) -> io::Result<()> {
     let mut username = [0xCCu8; 4096];
     let mut password = [0xBBu8; 4096];
     let u = lent::within(username_size, &username);
     let p = lent::within(password_size, &password);
-    read_form_call(body, &mut username[..u], &mut password[..p]);
+    read_form_call(output, body, &mut username[..u], &mut password[..p])
 }
 
-fn read_form_call(body: &[u8], username: &mut [u8], password: &mut [u8]) {
+fn read_form_call(
+    output: &mut impl Write,
+    body: &[u8],
+    username: &mut [u8],
+    password: &mut [u8],
+) -> io::Result<()> {
     let form = signon::read_form(body, username, password);
-    say_form(form, username, password);
+    say_form(output, form, username, password)
 }
 
-fn finish(held: Held, table: &mut [u8]) -> Held {
-    let serial = read_number();
-    let outcome = read_byte() != 0;
-    let time = read_long();
-    let size = read_number();
+fn finish(
+    input: &mut impl Read,
+    output: &mut impl Write,
+    held: Held,
+    table: &mut [u8],
+) -> io::Result<Held> {
+    let serial = read_number(input)?;
+    let outcome = read_byte(input)? != 0;
+    let time = read_long(input)?;
+    let size = read_number(input)?;
     if 16384 < size {
-        return cut();
+        return cut(output);
     }
     let n = lent::within(held.table, table);
-    finish_sized(&mut table[..n], (serial % CUT) as u32, outcome, time, size);
-    held
+    finish_sized(
+        output,
+        &mut table[..n],
+        (serial % CUT) as u32,
+        outcome,
+        time,
+        size,
+    )?;
+    Ok(held)
 }
 
-fn finish_sized(table: &mut [u8], serial: u32, outcome: bool, time: u64, size: u64) {
+fn finish_sized(
+    output: &mut impl Write,
+    table: &mut [u8],
+    serial: u32,
+    outcome: bool,
+    time: u64,
+    size: u64,
+) -> io::Result<()> {
     let mut out = [0xEEu8; 16384];
     let n = lent::within(size, &out);
-    finish_call(table, serial, outcome, time, &mut out[..n]);
+    finish_call(output, table, serial, outcome, time, &mut out[..n])
 }
 
-fn finish_call(table: &mut [u8], serial: u32, outcome: bool, time: u64, out: &mut [u8]) {
+fn finish_call(
+    output: &mut impl Write,
+    table: &mut [u8],
+    serial: u32,
+    outcome: bool,
+    time: u64,
+    out: &mut [u8],
+) -> io::Result<()> {
     let outcome = signon::finish(table, serial, outcome, time, out);
-    say_finish(outcome, out, table);
+    say_finish(output, outcome, out, table)
 }

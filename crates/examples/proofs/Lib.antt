@@ -1,2 +1,0 @@
--- Lengths of parts of a line.
-pub mod Laws

@@ -1,0 +1,2 @@
+-- What the contracts of lent buffers cite.
+pub mod Counts
