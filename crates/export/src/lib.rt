@@ -1,5 +1,5 @@
-// The nine calls for a host that links the library: numbers as themselves, a slice as pointer and length, and a result as a lent list of
-// numbers. A list of another length than the result has is refused: false, and nothing is written.
+// The nine calls as a host makes them: numbers as themselves, and a result as a lent list of numbers. A list of another length than the result
+// has is refused: false, and nothing is written. Crate `export_c` hands them out to C.
 #![tactic(auto)]
 
 ghost use Rattle.std.specs.Prelude.{◌≡◌, [], length};
@@ -63,29 +63,25 @@ fn put_fault(f: Fault, list: &mut [u64])
     list[1] = f.block as u64;
 }
 
-#[unsafe(no_mangle)]
-pub extern "C" fn pyhtirso_format(table: &mut [u8], time: u64) -> u32
+pub fn pyhtirso_format(table: &mut [u8], time: u64) -> u32
     ensures { numbered result table.new ≡ format_of table.old time }
 {
     signon::format(table, time)
 }
 
-#[unsafe(no_mangle)]
-pub extern "C" fn pyhtirso_housekeep(table: &mut [u8], time: u64) -> u32
+pub fn pyhtirso_housekeep(table: &mut [u8], time: u64) -> u32
     ensures { numbered result table.new ≡ housekeep_of table.old time }
 {
     signon::housekeep(table, time)
 }
 
-#[unsafe(no_mangle)]
-pub extern "C" fn pyhtirso_check(table: &[u8]) -> u32
+pub fn pyhtirso_check(table: &[u8]) -> u32
     ensures { result ≡ check_of table.now }
 {
     signon::check(table)
 }
 
-#[unsafe(no_mangle)]
-pub extern "C" fn pyhtirso_read_form(
+pub fn pyhtirso_read_form(
     body: &[u8],
     username: &mut [u8],
     password: &mut [u8],
@@ -102,8 +98,7 @@ pub extern "C" fn pyhtirso_read_form(
     true
 }
 
-#[unsafe(no_mangle)]
-pub extern "C" fn pyhtirso_answer(
+pub fn pyhtirso_answer(
     table: &mut [u8],
     register: &[u8],
     post: bool,
@@ -133,8 +128,7 @@ pub extern "C" fn pyhtirso_answer(
     true
 }
 
-#[unsafe(no_mangle)]
-pub extern "C" fn pyhtirso_finish(
+pub fn pyhtirso_finish(
     table: &mut [u8],
     serial: u32,
     ok: bool,
@@ -153,8 +147,7 @@ pub extern "C" fn pyhtirso_finish(
     true
 }
 
-#[unsafe(no_mangle)]
-pub extern "C" fn pyhtirso_visit(
+pub fn pyhtirso_visit(
     table: &[u8],
     cookie: &[u8],
     number: u32,
@@ -174,15 +167,13 @@ pub extern "C" fn pyhtirso_visit(
     true
 }
 
-#[unsafe(no_mangle)]
-pub extern "C" fn pyhtirso_panel(service: &[u8], callback: &[u8], block: &mut [u8]) -> u32
+pub fn pyhtirso_panel(service: &[u8], callback: &[u8], block: &mut [u8]) -> u32
     ensures { made result block.new ≡ panel_of service.now callback.now block.old }
 {
     signon::panel(service, callback, block)
 }
 
-#[unsafe(no_mangle)]
-pub extern "C" fn pyhtirso_check_register(register: &[u8], fault: &mut [u64]) -> bool
+pub fn pyhtirso_check_register(register: &[u8], fault: &mut [u64]) -> bool
     ensures { handed_fault result fault.new ≡ fault_handed fault.old register.now }
 {
     if fault.len() != 2 {
