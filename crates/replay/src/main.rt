@@ -20,7 +20,7 @@
 mod answer;
 mod frame;
 mod line;
-mod visit_call;
+mod visit_frame;
 
 ghost use Rattle.std.specs.Prelude.{◌<◌};
 
@@ -30,7 +30,7 @@ use lent::{CUT, whole};
 use line::{say_finish, say_form, say_table};
 use std::io;
 use std::io::{Read, Write};
-use visit_call::visit;
+use visit_frame::visit;
 
 // How many bytes table and register have, and whether to go on.
 #[derive(Clone, Copy)]
