@@ -1,4 +1,4 @@
-/* Pyhtirso's nine calls, for a host in C or C++. Link with libexport.a, for x86-64 (`rt lib` in crates/export_c writes it as out/libexport_c.a).
+/* Pyhtirso's nine calls, for a host in C or C++. Link with libexport.a, for x86-64-v2 (`rt lib` in crates/export_c writes it as out/libexport_c.a).
  * docs/HOST.md has a worked run, docs/RULES.md the rules and every format.
  *
  * Every slice is a pointer and a length. Where the length is 0 the pointer may be any, null too: nothing is read or written through it.

@@ -13,8 +13,9 @@ const PATIENCE_MS: i32 = 30_000;
 const PROGRAM: &str = "pipe";
 const LOADER: &str = "ld-linux-x86-64.so.2";
 const EMULATOR: &str = "qemu-x86_64";
-/// A plain processor: for a newer one the C library fills memory by an instruction that the emulator takes a byte at a time.
-const EMULATED: [&str; 2] = ["-cpu", "qemu64"];
+/// A processor of the level that the core is built for, x86-64-v2: for a newer one the C library fills memory by an instruction that the emulator
+/// takes a byte at a time.
+const EMULATED: [&str; 2] = ["-cpu", "Nehalem"];
 
 /// The core has ended, or has said what is no answer: why.
 #[derive(Clone, Debug)]
