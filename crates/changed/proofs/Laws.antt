@@ -1,6 +1,6 @@
 -- What is told of a change is enough, for tables of whole blocks:
---     told-gives-new      the told blocks laid over the old table give the new one
---     untold-as-before    a block that is not told is as it was
+--     told_gives_new      the told blocks laid over the old table give the new one
+--     untold_as_before    a block that is not told is as it was
 --     all_told            against no table at all every block is told: laid over any table, they give the new one
 --     none_told           of a table that did not change nothing is told
 -- Assumes nothing.

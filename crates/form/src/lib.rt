@@ -31,8 +31,8 @@ fn read_credentials(
     username: &mut [u8],
     password: &mut [u8],
 ) -> Form
-    requires readable { Readable true (length username.old) body.now user }
-    requires readable_2 { Readable true (length password.old) body.now word }
+    requires username_readable { Readable true (length username.old) body.now user }
+    requires password_readable { Readable true (length password.old) body.now word }
     ensures { form_read result username.new password.new
         ≡ form_given (value_at true body.now user) (value_at true body.now word) username.old password.old }
 {

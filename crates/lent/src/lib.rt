@@ -2,16 +2,18 @@
 // answer. Every place is taken as far as the buffer goes.
 #![tactic(auto)]
 
-ghost use Rattle.std.specs.Prelude.{◌≡◌, ◌+◌, ◌≤◌, length, take, IfOk};
+ghost use Rattle.std.specs.Prelude.{◌≡◌, ◌+◌, ◌≤◌, length, take, IfOk, OnErr};
 ghost use Rattle.lent.specs.Counts.{IsPrefixLen};
 
 use protocol::{Method, Outcome};
 use std::io;
 use std::io::Read;
 
-// Reads until buf is full or the input ends: how many bytes were put at its start.
+// Reads until buf is full or the input ends: how many bytes were put at its start. Where a read fails, buf has its length, and its bytes
+// may be others.
 pub fn read_full(input: &mut impl Read, buf: &mut [u8]) -> io::Result<usize>
-    ensures { IfOk result (λ n. IsPrefixLen n buf.new) }
+    ensures ok { IfOk result (λ n. IsPrefixLen n buf.new) }
+    ensures err { OnErr result (length buf.new ≡ length buf.old) }
 {
     let mut done = 0;
     while done < buf.len() {

@@ -1,5 +1,5 @@
-// The fields of a frame, read from the input.
-ghost use Rattle.std.specs.Prelude.{◌+◌, ◌≤◌, IfOk};
+// The fields of a frame, read from the input. Where a read fails, a buffer has its length, and its bytes may be others.
+ghost use Rattle.std.specs.Prelude.{◌≡◌, ◌+◌, ◌≤◌, length, IfOk, OnErr};
 
 use lent::{CUT, read_full};
 use std::io;
@@ -36,7 +36,8 @@ pub fn read_long(input: &mut impl Read) -> io::Result<u64> {
 // So many bytes, put at the start of buf: their number, or CUT where there is no room or the input ends.
 fn read_exactly(input: &mut impl Read, buf: &mut [u8], n: u64) -> io::Result<u64>
     requires { n ≤ 4294967296 }
-    ensures { IfOk result (λ got. got ≤ 4294967296) }
+    ensures ok { IfOk result (λ got. got ≤ 4294967296) }
+    ensures err { OnErr result (length buf.new ≡ length buf.old) }
 {
     if lent::lacks(buf, n) {
         return Ok(CUT);
@@ -51,7 +52,8 @@ fn read_exactly(input: &mut impl Read, buf: &mut [u8], n: u64) -> io::Result<u64
 
 // A field of bytes, put at the start of buf: how many there are, or CUT.
 pub fn read_bytes(input: &mut impl Read, buf: &mut [u8]) -> io::Result<u64>
-    ensures { IfOk result (λ n. n ≤ 4294967296) }
+    ensures ok { IfOk result (λ n. n ≤ 4294967296) }
+    ensures err { OnErr result (length buf.new ≡ length buf.old) }
 {
     let n = read_number(input)?;
     read_exactly(input, buf, n)
@@ -60,7 +62,8 @@ pub fn read_bytes(input: &mut impl Read, buf: &mut [u8]) -> io::Result<u64>
 // So many bytes of a frame, put behind the first `from` of buf: where they end, or more than buf has where they or what is before them is cut.
 pub fn gather(input: &mut impl Read, buf: &mut [u8], from: u64, n: u64) -> io::Result<u64>
     requires { (from ≤ 1099511627776) × (n ≤ 4294967296) }
-    ensures { IfOk result (λ end. end ≤ from + 4294967296) }
+    ensures ok { IfOk result (λ end. end ≤ from + 4294967296) }
+    ensures err { OnErr result (length buf.new ≡ length buf.old) }
 {
     if lent::lacks(buf, from) {
         return Ok(from);
@@ -73,7 +76,8 @@ pub fn gather(input: &mut impl Read, buf: &mut [u8], from: u64, n: u64) -> io::R
 // A field of bytes with its length before it, in the same way.
 pub fn gather_text(input: &mut impl Read, buf: &mut [u8], from: u64) -> io::Result<u64>
     requires { from ≤ 549755813888 }
-    ensures { IfOk result (λ end. end ≤ from + 8589934592) }
+    ensures ok { IfOk result (λ end. end ≤ from + 8589934592) }
+    ensures err { OnErr result (length buf.new ≡ length buf.old) }
 {
     let at = gather(input, buf, from, 4)?;
     let n = lent::number(buf, from);

@@ -1,10 +1,10 @@
 -- Laws of writing into a lent buffer, for any writer; what `Room` and `Wrote` mean is in protocol's Written.
---     then        two writes in a row are one write of both texts; room-first, room_next: there is room for each
+--     then        two writes in a row are one write of both texts; room_first, room_next: there is room for each
 --     Left        of what is to be written, `rest` is left, and what stands there is right so far
---     left-start  nothing is written yet        left-room   there is room for the next part
---     left-put    a part was written            left-byte   a byte was stored
---     left-done   nothing is left: all was written
---     Due         the same for a text in parts: due-start, due-room, due-put, due-done
+--     left_start  nothing is written yet        left_room   there is room for the next part
+--     left_put    a part was written            left_byte   a byte was stored
+--     left_done   nothing is left: all was written
+--     Due         the same for a text in parts: due_start, due_room, due_put, due_done
 -- Assumes nothing.
 use mathlib.Core.Path.{◌≡◌, refl, sym, ap, ◌∙◌}
 use mathlib.Core.List.{List, [], ◌∷◌, ◌++◌, append_assoc}

@@ -12,12 +12,6 @@ loop-i-init c = (omega arith, omega arith, omega arith, refl)
 pub bounds-s-i : goal.bounds-s-i
 bounds-s-i c = omega arith
 
-pub overflow_add-a : goal.overflow_add-a
-overflow_add-a c = omega (arith, c.shared_slice_known-in-loop-i-1.given c.loop-i.i)
-
-pub overflow_add-b : goal.overflow_add-b
-overflow_add-b c = omega (arith, c.shared_slice_known-in-loop-i-1.given c.loop-i.i)
-
 pub overflow_add-i : goal.overflow_add-i
 overflow_add-i c = omega arith
 
@@ -27,7 +21,6 @@ loop-i-smaller c = omega arith
 pub loop-i-preserved : goal.loop-i-preserved
 loop-i-preserved c =
     let l = c.loop-i in
-    let k = c.shared_slice_known-in-loop-i-1.given l.i in
     (omega arith, omega arith, omega arith, sym (sums_turn _ _ l.i l.a l.b c.wide-a.result (omega arith) c.wide-a.ensures.0) ∙ l.invariant.3)
 
 -- behind the loop the second sum has room to grow

@@ -21,11 +21,11 @@ returns-then-user-eq0 c = search (rules, no_username)
 pub returns-then-word-eq0 : goal.returns-then-word-eq0
 returns-then-word-eq0 c = search (rules, no_password)
 
-pub read_credentials-requires-clause-readable : goal.read_credentials-requires-clause-readable
-read_credentials-requires-clause-readable c = search (rules, username_fits, password_fits)
+pub read_credentials-requires-clause-username_readable : goal.read_credentials-requires-clause-username_readable
+read_credentials-requires-clause-username_readable c = search (rules, username_fits, password_fits)
 
-pub read_credentials-requires-clause-readable_2 : goal.read_credentials-requires-clause-readable_2
-read_credentials-requires-clause-readable_2 c = search (rules, username_fits, password_fits)
+pub read_credentials-requires-clause-password_readable : goal.read_credentials-requires-clause-password_readable
+read_credentials-requires-clause-password_readable c = search (rules, username_fits, password_fits)
 
 pub returns : goal.returns
 returns c = search (rules, form_read_lem)
