@@ -410,7 +410,7 @@ static void a_byte_goes_bad(void)
     memcpy(cookie_before, cookie_out, COOKIE);
     ask("The gate panel", panel_itself, "/cas/serviceValidate?service=" GATE "&ticket=%s", pass);
     means(outcome[PYHTIRSO_REFUSAL] == 2 && pyhtirso_check(table, sizeof table) == 2,
-          "The server does not work on a damaged table; the check call gives the same number. (Theorems `check-damaged`, `answer-damaged`: so for every byte.)");
+          "The server does not work on a damaged table; the check call gives the same number. (Theorems `check_damaged`, `answer_damaged`: so for every byte.)");
     means(!memcmp(table_before, table, sizeof table) && !memcmp(out_before, out, OUT) && !memcmp(cookie_before, cookie_out, COOKIE),
           "Nothing was changed: every byte of table, answer and cookie is as before. (Contract of `answer`: so for every refusal.)");
     *bad ^= 4;
@@ -502,7 +502,7 @@ static void tell_answers(void)
            "   session is opened only by a sign-on with the desk's yes and a live login ticket. Whether a password is right, the desk says.\n\n");
     printf("3. Can an old pass be used twice? No.\n"
            "   Tonight: passes already used, burnt, ended or expired were shown %d times, and none was let in.\n", shown_old);
-    printf("   Every night: theorem `account`, parts `accepted-once` and `once`: no pass is accepted twice or gets two success answers.\n");
+    printf("   Every night: theorem `account`, parts `accepted_once` and `once`: no pass is accepted twice or gets two success answers.\n");
     if (accepted != named)
         trouble("a pass was let in without a name, or named without being let in");
 }
