@@ -26,6 +26,15 @@ pub enum Path {
     Unknown,
 }
 
+// What comes with a request's target and body: the panel register, the cookie, the random input and the host's verdict on a password.
+#[derive(Clone, Copy)]
+pub struct Brings<'a> {
+    pub register: &'a [u8],
+    pub cookie: &'a [u8],
+    pub random: &'a [u8; 48],
+    pub verdict: bool,
+}
+
 // What login by GET comes to.
 #[derive(Clone, Copy)]
 pub enum Way {
