@@ -11,7 +11,7 @@ use Rattle.protocol.specs.Bytes.{ascii, all_within, spliced}
 use Rattle.protocol.specs.Request.{hex_value, unit_of, skip_of, decoded_from, decoded}
 use Rattle.protocol.specs.Written.{Wrote}
 use Rattle.decode.specs.Judging.{judged}
-use Rattle.decode.specs.declared.Judged.TheVariants.{Bad}
+use Rattle.std.specs.Prelude.{None}
 
 -- what a call wrote at the front is read there
 front : (old new text : List ℕ) (r : ℕ) → Wrote old 0 new r text → take r new ≡ text
@@ -31,6 +31,6 @@ module _ (old new : List ℕ) (r : ℕ) where
   unfolding decoded_from unit_of skip_of hex_value
   E4-body w = front old new (ascii "a b") r w
 
-pub E5 : (judged false 32 126 200 (ascii "%4") ≡ Bad) × (judged false 32 126 200 (ascii "%4g") ≡ Bad)
+pub E5 : (judged false 32 126 200 (ascii "%4") ≡ None) × (judged false 32 126 200 (ascii "%4g") ≡ None)
 unfolding judged decoded_from unit_of skip_of hex_value all_within
 E5 = (refl, refl)

@@ -20,7 +20,7 @@ use Rattle.utf8.specs.Machine.{followed, is_start, judged_from}
 use Rattle.utf8.proofs.Laws.{judged_turn, judged_done}
 use Rattle.utf8.proofs.Join.{judged_name_lem}
 use Rattle.decode.specs.Judging.{Hex, UnitAt, judged, judged_name}
-use Rattle.decode.specs.declared.Judged.TheVariants.{Bad, Good}
+use Rattle.std.specs.Prelude.{Some, None}
 
 pub byte_none : (s : List ℕ) (i : ℕ) → length s ≤ i → 0 ≡ get_or s i 0
 byte_none s i h = sym (get_or-eq_default s 0 h)
@@ -136,11 +136,11 @@ module _ (in_body : Bool) (s : List ℕ) (i : ℕ) (h : i < length s) where
 module _ (in_body : Bool) (lo hi most : ℕ) (raw : List ℕ) (i n : ℕ)
     (right : all_within lo hi (decoded in_body raw) ≡ all_within lo hi (decoded in_body (drop i raw)))
     (count : length (decoded in_body raw) ≡ n + length (decoded in_body (drop i raw))) where
-  bad : all_within lo hi (decoded in_body raw) ≡ false → Bad ≡ judged in_body lo hi most raw
+  bad : all_within lo hi (decoded in_body raw) ≡ false → None ≡ judged in_body lo hi most raw
   unfolding judged
   bad f = rw f (go (leb (length (decoded in_body raw)) most))
     where
-      go : (t : Bool) → Bad ≡ if (t && false) (Good (length (decoded in_body raw))) Bad
+      go : (t : Bool) → None ≡ if (t && false) (Some (length (decoded in_body raw))) None
       go true = refl
       go false = refl
 
@@ -152,11 +152,11 @@ module _ (in_body : Bool) (lo hi most : ℕ) (raw : List ℕ) (i n : ℕ)
     unfolding all_within
     all_right = right ∙ ap (all_within lo hi) (decoded_end in_body raw i h)
 
-    pub judge_good : n ≤ most → Good n ≡ judged in_body lo hi most raw
+    pub judge_good : n ≤ most → Some n ≡ judged in_body lo hi most raw
     unfolding judged
     judge_good k = rw (all_right, all_passed, le-leb n most k)
 
-    pub judge-long : most < n → Bad ≡ judged in_body lo hi most raw
+    pub judge-long : most < n → None ≡ judged in_body lo hi most raw
     unfolding judged
     judge-long k = rw (all_right, all_passed, lt-leb n most k)
 
@@ -165,10 +165,10 @@ module _ (in_body : Bool) (lo hi most : ℕ) (raw : List ℕ) (i n : ℕ)
     unfolding all_within
     unrolled = right ∙ ap (all_within lo hi) u.step
 
-    pub judge_low : v < lo → Bad ≡ judged in_body lo hi most raw
+    pub judge_low : v < lo → None ≡ judged in_body lo hi most raw
     judge_low h = bad (unrolled ∙ rw (lt-leb lo v h))
 
-    pub judge_high : lo ≤ v → hi < v → Bad ≡ judged in_body lo hi most raw
+    pub judge_high : lo ≤ v → hi < v → None ≡ judged in_body lo hi most raw
     judge_high l h = bad (unrolled ∙ rw (le-leb lo v l, lt-leb v hi h))
 
     pub judge_right : lo ≤ v → v ≤ hi → all_within lo hi (decoded in_body raw) ≡ all_within lo hi (decoded in_body (drop next raw))
@@ -191,15 +191,15 @@ module _ (in_body : Bool) (most : ℕ) (raw : List ℕ) (i n : ℕ) (state : Nex
     name_state : z ≡ name_right (decoded in_body raw)
     name_state = judged_done state (decoded in_body (drop i raw)) (name_right (decoded in_body raw)) decides z (decoded_end in_body raw i h) e
 
-    pub name_good : z && leb n most ≡ true → Good n ≡ judged_name in_body most raw
+    pub name_good : z && leb n most ≡ true → Some n ≡ judged_name in_body most raw
     unfolding judged_name
     name_good k = let p = both z (leb n most) k in rw (← name_state, name_length, p.0, p.1)
 
-    pub name_bad : z && leb n most ≡ false → Bad ≡ judged_name in_body most raw
+    pub name_bad : z && leb n most ≡ false → None ≡ judged_name in_body most raw
     unfolding judged_name
     name_bad k = rw (← name_state, name_length) (go z (leb n most) k)
       where
-        go : (a b : Bool) → a && b ≡ false → Bad ≡ if (b && a) (Good n) Bad
+        go : (a b : Bool) → a && b ≡ false → None ≡ if (b && a) (Some n) None
         go true true q = absurd (let w : ◌≡◌ {A = ℕ} 0 1 = cc in omega arith)
         go true false q = refl
         go false true q = refl

@@ -1,10 +1,8 @@
 -- A raw value read a byte at a time, and judged as a whole.
-use Rattle.std.specs.Prelude.{◌≡◌, Bool, ◌&&◌, List, ◌∷◌, ℕ, ◌≤◌, ◌<◌, leb, length, drop}
+use Rattle.std.specs.Prelude.{◌≡◌, Bool, ◌&&◌, List, ◌∷◌, ℕ, ◌≤◌, ◌<◌, leb, length, drop, Option, Some, None}
 use Rattle.protocol.specs.Utf8.{name_right}
 use Rattle.protocol.specs.Bytes.{if, all_within}
 use Rattle.protocol.specs.Request.{hex_value, decoded}
-use Rattle.decode.specs.declared.Judged.{Judged}
-use Rattle.decode.specs.declared.Judged.TheVariants.{Bad, Good}
 
 -- r is the value of the hex digit b, 16 for any other byte
 pub record Hex (b r : ℕ) : Type 0 where
@@ -18,11 +16,15 @@ pub record UnitAt (in_body : Bool) (s : List ℕ) (i value next : ℕ) : Type 0 
   pub inside : next ≤ length s
 
 -- the decoded length, where every byte is from lo to hi and there are at most so many
-unfoldable pub judged : Bool → ℕ → ℕ → ℕ → List ℕ → Judged
+unfoldable pub judged : Bool → ℕ → ℕ → ℕ → List ℕ → Option ℕ
 judged in_body lo hi most raw =
-    if (leb (length (decoded in_body raw)) most && all_within lo hi (decoded in_body raw)) (Good (length (decoded in_body raw))) Bad
+    if (leb (length (decoded in_body raw)) most && all_within lo hi (decoded in_body raw)) (Some (length (decoded in_body raw))) None
 
 -- the decoded length, where it is a name of at most so many bytes
-unfoldable pub judged_name : Bool → ℕ → List ℕ → Judged
+unfoldable pub judged_name : Bool → ℕ → List ℕ → Option ℕ
 judged_name in_body most raw =
-    if (leb (length (decoded in_body raw)) most && name_right (decoded in_body raw)) (Good (length (decoded in_body raw))) Bad
+    if (leb (length (decoded in_body raw)) most && name_right (decoded in_body raw)) (Some (length (decoded in_body raw))) None
+
+-- how long a raw value is when decoded
+abbrev pub decoded_length : Bool → List ℕ → ℕ
+decoded_length in_body raw = length (decoded in_body raw)

@@ -10,13 +10,6 @@ ghost use Rattle.decode.specs.Judging.{Hex, UnitAt, judged, judged_name};
 
 use utf8::Next;
 
-// A value that may not stand, or the length of one that may.
-#[derive(Clone, Copy)]
-pub enum Judged {
-    Bad,
-    Good(usize),
-}
-
 // The byte that stands at a place of a raw value, or 256 for a `%` without two hex digits; and the next place.
 #[derive(Clone, Copy)]
 struct Unit {
@@ -90,8 +83,8 @@ fn unit_at(s: &[u8], i: usize, in_body: bool) -> Unit
     }
 }
 
-// Whether a value, decoded, has only bytes from lo to hi and at most so many. Nothing is written.
-pub fn judge(raw: &[u8], in_body: bool, lo: usize, hi: usize, most: usize) -> Judged
+// The length of a value, decoded, where it has only bytes from lo to hi and at most so many. Nothing is written.
+pub fn judge(raw: &[u8], in_body: bool, lo: usize, hi: usize, most: usize) -> Option<usize>
     ensures { result ≡ judged in_body lo hi most raw.now }
 {
     let mut i = 0;
@@ -100,22 +93,22 @@ pub fn judge(raw: &[u8], in_body: bool, lo: usize, hi: usize, most: usize) -> Ju
         let u = unit_at(raw, i, in_body);
         let v = u.value;
         if v < lo {
-            return Judged::Bad;
+            return None;
         }
         if hi < v {
-            return Judged::Bad;
+            return None;
         }
         i = u.next;
         n += 1;
     }
     if n <= most {
-        return Judged::Good(n);
+        return Some(n);
     }
-    Judged::Bad
+    None
 }
 
-// Whether a value, decoded, is a name of at most so many bytes. Nothing is written.
-pub fn judge_name(raw: &[u8], in_body: bool, most: usize) -> Judged
+// The length of a value, decoded, where it is a name of at most so many bytes. Nothing is written.
+pub fn judge_name(raw: &[u8], in_body: bool, most: usize) -> Option<usize>
     ensures { result ≡ judged_name in_body most raw.now }
 {
     let mut i = 0;
@@ -128,9 +121,9 @@ pub fn judge_name(raw: &[u8], in_body: bool, most: usize) -> Judged
         n += 1;
     }
     if utf8::is_start(state) & (n <= most) {
-        return Judged::Good(n);
+        return Some(n);
     }
-    Judged::Bad
+    None
 }
 
 // Whether a value, decoded, is this text. Nothing is written.

@@ -1,42 +1,89 @@
 -- A service found in the register is the one that was given, and what is not found is unknown. Assumes nothing.
-use mathlib.Core.Path.{◌≡◌, refl, sym, ◌∙◌}
+use mathlib.Core.Path.{◌≡◌, refl, sym, ap, ◌∙◌}
 use mathlib.Core.Bool.{Bool, true, false, ◌&&◌, not}
 use mathlib.Core.List.{List, [], ◌∷◌}
-use Prim.Native.Nat.{ℕ, ◌/◌, ◌≤◌, ◌<◌}
+use Prim.Native.Nat.{ℕ, ◌+◌, ◌*◌, ◌/◌, ◌≤◌, ◌<◌}
 use native.Mathlib.Omega.{arith}
-use borrow.Author.Tests.{ne_eqb, lt-ltb, le-ltb}
+use borrow.Author.Tests.{ne_eqb, lt-ltb, le-ltb, ltb-true, ltb-false}
 use lib.Dec.{eqb, ltb}
-use lib.ListN.{length, take}
-use Rattle.protocol.specs.Bytes.{if, is_empty}
+use lib.ListN.{length}
+use Rattle.std.specs.Prelude.{Option, Some, None, is_none, unwrap_or}
+use Rattle.protocol.specs.Bytes.{if, is_empty, same}
 use Rattle.protocol.specs.Register.{Entry, decode_register, registered, callback_of}
 use Rattle.protocol.specs.Panels.{service_in}
 use Rattle.protocol.specs.Steps.{link_to, unknown_service}
-use Rattle.request.specs.Value.{value_at, Readable}
-use Rattle.request.specs.declared.Value.{Value}
+use Rattle.request.specs.Value.{text_of, Short}
+use Rattle.request.specs.declared.value.Value.{Value}
 use Rattle.register.specs.Blockwise.{place_of, callback_in}
-use Rattle.register.proofs.Laws.{stands, service_found, callback_found}
+use Rattle.known.specs.Standing.{standing}
+use Rattle.register.proofs.Laws.{Looking, look_hit, look_none, stands, service_found, callback_found, callback_nowhere}
+
+-- `standing`: the loop's place, or none
+module _ (s b : List ℕ) (p : ℕ) (e : p ≡ place_of s (decode_register b)) where
+  stands_there : p < length b / 512 → ◌≡◌ {A = Option ℕ} (Some p) (standing s (decode_register b))
+  unfolding standing
+  stands_there h = let r : registered s (decode_register b) ≡ true = sym (stands s b p e) ∙ lt-ltb p (length b / 512) h in rw (r, ← e)
+
+  stands_nowhere : length b / 512 ≤ p → ◌≡◌ {A = Option ℕ} None (standing s (decode_register b))
+  unfolding standing
+  stands_nowhere h = let r : registered s (decode_register b) ≡ false = sym (stands s b p e) ∙ le-ltb p (length b / 512) h in rw r
+
+module _ (s b : List ℕ) (m k : ℕ) (l : Looking s b m k) where
+  pub look_stands : k < m → (v : List ℕ) → v ≡ service_in b k → (r : Bool) → r ≡ same s v → r ≡ true → ◌≡◌ {A = Option ℕ} (Some k) (standing s (decode_register b))
+  look_stands h v ev r e f = stands_there s b k (look_hit s b m k l h v ev r e f) (omega (arith, l.count))
+
+  pub look_nowhere : m ≤ k → ◌≡◌ {A = Option ℕ} None (standing s (decode_register b))
+  look_nowhere h = stands_nowhere s b m (look_none s b m k l h) (omega (arith, l.count))
 
 -- `service_of` and `callback_of`: what stands at the place
-module _ (s b : List ℕ) (p : ℕ) (e : p ≡ place_of s (decode_register b)) where
-  pub service_there : (v : List ℕ) → p < length b / 512 → v ≡ service_in b p → v ≡ link_to s (decode_register b)
-  unfolding link_to
-  service_there v h q =
-      let r : registered s (decode_register b) ≡ true = sym (stands s b p e) ∙ lt-ltb p (length b / 512) h in
-      q ∙ sym (service_found s b p e h) ∙ rw r
+module _ (s b : List ℕ) where
+  place_told : (o : Option ℕ) (p : ℕ) → o ≡ standing s (decode_register b) → o ≡ Some p → (registered s (decode_register b) ≡ true) × (p ≡ place_of s (decode_register b))
+  unfolding standing
+  place_told o p e k = go (registered s (decode_register b)) (sym k ∙ e)
+    where
+      go : (r : Bool) → ◌≡◌ {A = Option ℕ} (Some p) (if r (Some (place_of s (decode_register b))) None) → (r ≡ true) × (p ≡ place_of s (decode_register b))
+      go true z = (refl, ap (λ (u : Option ℕ). unwrap_or u 0) z)
+      go false z = absurd (let w : ◌≡◌ {A = Bool} false true = ap is_none z in let v : ◌≡◌ {A = ℕ} 0 1 = cc in omega arith)
 
-  pub service_nowhere : length b / 512 ≤ p → take 0 b ≡ link_to s (decode_register b)
-  unfolding link_to
-  service_nowhere h = let r : registered s (decode_register b) ≡ false = sym (stands s b p e) ∙ le-ltb p (length b / 512) h in rw r
+  nowhere_told : (o : Option ℕ) → o ≡ standing s (decode_register b) → o ≡ None → registered s (decode_register b) ≡ false
+  unfolding standing
+  nowhere_told o e k = go (registered s (decode_register b)) (sym k ∙ e)
+    where
+      go : (r : Bool) → ◌≡◌ {A = Option ℕ} None (if r (Some (place_of s (decode_register b))) None) → r ≡ false
+      go true z = absurd (let w : ◌≡◌ {A = Bool} true false = ap is_none z in let v : ◌≡◌ {A = ℕ} 0 1 = cc in omega arith)
+      go false z = refl
 
-  pub callback_there : (v : List ℕ) → p < length b / 512 → v ≡ callback_in b p → v ≡ callback_of s (decode_register b)
-  callback_there v h q = q ∙ callback_found s b p e h
+  module _ (o : Option ℕ) (e : o ≡ standing s (decode_register b)) where
+    module _ (p : ℕ) (k : o ≡ Some p) where
+      inside : p < length b / 512
+      inside = let t = place_told o p e k in ltb-true p (length b / 512) (stands s b p t.1 ∙ t.0)
+
+      pub place_inside : 512 * p + 512 ≤ length b
+      place_inside = omega (arith, inside)
+
+      pub service_there : (v : List ℕ) → v ≡ service_in b p → v ≡ link_to s (decode_register b)
+      unfolding link_to
+      service_there v q = let t = place_told o p e k in q ∙ sym (service_found s b p t.1 inside) ∙ rw t.0
+
+      pub callback_there : (v : List ℕ) → v ≡ callback_in b p → v ≡ callback_of s (decode_register b)
+      callback_there v q = q ∙ callback_found s b p (place_told o p e k).1 inside
+
+    module _ (k : o ≡ None) where
+      pub service_nowhere : [] ≡ link_to s (decode_register b)
+      unfolding link_to
+      service_nowhere = rw (nowhere_told o e k)
+
+      pub callback_none : [] ≡ callback_of s (decode_register b)
+      callback_none =
+          let p : ℕ = place_of s (decode_register b) in
+          callback_nowhere s b p refl (ltb-false p (length b / 512) (stands s b p refl ∙ nowhere_told o e k))
 
 -- For callers
 
 -- what was found is no longer than what may be given
-pub known-short : (in_body : Bool) (most : ℕ) (q v : List ℕ) (value : Value) (es : List Entry) → v ≡ link_to (value_at in_body q value) es → Readable in_body most q value → length v ≤ most
+pub known-short : (most : ℕ) (v : List ℕ) (value : Value) (es : List Entry) → v ≡ link_to (text_of value) es → Short most value → length v ≤ most
 unfolding link_to
-known-short in_body most q v value es e h = rw e (go (value_at in_body q value) (registered (value_at in_body q value) es) (omega (arith, h.long, h.fits)))
+known-short most v value es e h = rw e (go (text_of value) (registered (text_of value) es) (omega (arith, value.measured, h.fits)))
   where
     go : (l : List ℕ) (r : Bool) → length l ≤ most → length (if r l []) ≤ most
     go l true k = k

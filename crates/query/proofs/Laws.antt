@@ -2,12 +2,13 @@
 use mathlib.Core.Path.{◌≡◌, refl, sym, ap, ◌∙◌}
 use mathlib.Core.Bool.{Bool, true, false}
 use mathlib.Core.List.{List, []}
-use Prim.Native.Nat.{ℕ, suc, ◌+◌, ◌-◌, ◌≤◌, ◌<◌}
+use Prim.Native.Nat.{ℕ, suc, ◌+◌, ◌-◌, ◌^◌, ◌≤◌, ◌<◌}
 use native.Mathlib.Numerals.{add-one}
 use native.Mathlib.Omega.{arith}
 use borrow.Author.Tests.{eqb-true, eq-eqb, ne_eqb}
 use lib.Dec.{eqb}
 use lib.ListN.{length, take, drop}
+use Rattle.std.specs.Borrow.{Bor}
 use Rattle.protocol.specs.Bytes.{if, same, up_to, part}
 use Rattle.protocol.specs.Request.{pieces, name_in, value_in, count_named, first_named, occurrences, raw_value, path_named, path_part, query_part}
 use Rattle.protocol.specs.declared.Path.{Path}
@@ -15,7 +16,7 @@ use Rattle.protocol.proofs.Pieces.{take-up_to, past-drop}
 use Rattle.text.specs.First.{FirstAt}
 use Rattle.text.proofs.Laws.{tail_part}
 use Rattle.query.specs.Piece.{piece_at, piece_after}
-use Rattle.query.specs.Place.{Inside, noted_by, raw_in, Noted, Walked}
+use Rattle.query.specs.Place.{Inside, noted_by, Noted, Walked}
 use Rattle.query.specs.declared.Piece.{Piece}
 use Rattle.query.specs.declared.Place.{Place}
 use Rattle.query.proofs.Pieces.{Found, told_end, told_piece, drop_end}
@@ -38,33 +39,29 @@ pub query_none : (t : List ℕ) (n : ℕ) → FirstAt 63 t n → length t ≤ n 
 query_none t n f h = sym (past-drop 63 t ∙ drop_end t (suc (length (up_to 63 t))) (omega (arith, f.is)))
 
 -- `noted`
-module _ (name wanted : List ℕ) (from to : ℕ) (p : Place) (here : Bool) (e : here ≡ same name wanted) where
-  pub noted_first : here ≡ true → p.count ≡ 0 → record { count = p.count + 1; from = from; to = to } ≡ noted_by (same name wanted) from to p
+module _ (name wanted : List ℕ) (raw : Bor (List ℕ)) (p : Place) (here : Bool) (e : here ≡ same name wanted) where
+  pub noted_first : here ≡ true → p.count ≡ 0 → record { count = p.count + 1; raw = raw } ≡ noted_by (same name wanted) raw p
   unfolding noted_by
   noted_first h z = rw (← e, h, eq-eqb p.count 0 z)
 
-  pub noted_again : here ≡ true → (p.count ≡ 0 → ⊥) → record { count = p.count + 1; from = p.from; to = p.to } ≡ noted_by (same name wanted) from to p
+  pub noted_again : here ≡ true → (p.count ≡ 0 → ⊥) → record { count = p.count + 1; raw = p.raw } ≡ noted_by (same name wanted) raw p
   unfolding noted_by
   noted_again h z = rw (← e, h, ne_eqb p.count 0 z)
 
-  pub noted_not : here ≡ false → p ≡ noted_by (same name wanted) from to p
+  pub noted_not : here ≡ false → p ≡ noted_by (same name wanted) raw p
   unfolding noted_by
   noted_not h = rw (← e, h)
 
 -- a name noted in the pieces up to a place: what was noted and the pieces that are left say what the whole query says
 pub record Noting (q name : List ℕ) (at : ℕ) (p : Place) : Type 0 where
   pub count : occurrences name q ≡ p.count + count_named name (pieces (drop at q))
-  pub raw : raw_value name q ≡ if (eqb p.count 0) (first_named name (pieces (drop at q))) (raw_in q p)
-  pub none : eqb p.count 0 ≡ true → raw_in q p ≡ []
+  pub raw : raw_value name q ≡ if (eqb p.count 0) (first_named name (pieces (drop at q))) p.raw.now
+  pub none : eqb p.count 0 ≡ true → p.raw.now ≡ []
   pub most : p.count ≤ at
-  pub inside : Inside q p.from p.to
 
-abbrev pub nowhere : Place
-nowhere = record { count = 0; from = 0; to = 0 }
-
-pub noting_start : (q name : List ℕ) → Noting q name 0 nowhere
+pub noting_start : (q name : List ℕ) (p : Place) → p.count ≡ 0 → p.raw.now ≡ [] → Noting q name 0 p
 unfolding occurrences raw_value
-noting_start q name = record { count = omega arith; raw = refl; none = λ e. refl; most = omega arith; inside = record { ordered = omega arith; ends = omega arith } }
+noting_start q name p z e = record { count = omega (arith, z); raw = rw z; none = λ i. e; most = omega arith }
 
 module _ (q : List ℕ) (p r : Piece) (e : r ≡ piece_after q p) where
   -- no piece is left: what was noted is what the query says
@@ -73,9 +70,9 @@ module _ (q : List ℕ) (p r : Piece) (e : r ≡ piece_after q p) where
     unfolding count_named first_named
     done name w n =
         let z : pieces (drop p.end q) ≡ [] = told_end q p r e k in
-        record { count = omega (arith, n.count, ap (count_named name) z); raw = go (eqb w.count 0) refl (n.raw ∙ rw z); inside = n.inside }
+        record { count = omega (arith, n.count, ap (count_named name) z); raw = go (eqb w.count 0) refl (n.raw ∙ rw z) }
       where
-        go : (t : Bool) → eqb w.count 0 ≡ t → raw_value name q ≡ if t [] (raw_in q w) → raw_in q w ≡ raw_value name q
+        go : (t : Bool) → eqb w.count 0 ≡ t → raw_value name q ≡ if t [] w.raw.now → w.raw.now ≡ raw_value name q
         go true f g = n.none f ∙ sym g
         go false f g = sym g
 
@@ -94,13 +91,19 @@ module _ (q : List ℕ) (p r : Piece) (e : r ≡ piece_after q p) where
     pub name_ends : r.mid ≤ length q
     name_ends = omega (arith, piece)
 
+    pub value_inside : Inside q r.value r.end
+    value_inside = record { ordered = piece.ends; ends = piece.inside }
+
     -- what is left to read falls
     pub goes_on : length q - r.end < length q - p.end
     goes_on = omega (arith, piece)
 
     module _ (name : List ℕ) (w : Place) (n : Noting q name p.end w) where
-      pub count_fits : w.count < r.value
+      count_fits : w.count < r.value
       count_fits = omega (arith, piece, n.most)
+
+      pub count_most : r.value < 2 ^ 64 → w.count + 1 < 2 ^ 64
+      count_most h = omega (arith, count_fits)
 
       abbrev left : List (List ℕ)
       left = pieces (drop r.end q)
@@ -111,35 +114,34 @@ module _ (q : List ℕ) (p r : Piece) (e : r ≡ piece_after q p) where
       more : eqb (w.count + 1) 0 ≡ false
       more = ne_eqb (w.count + 1) 0 (λ z. omega arith)
 
-      turned : (h z : Bool) → eqb w.count 0 ≡ z → occurrences name q ≡ w.count + (if h 1 0 + count_named name left)
-          → raw_value name q ≡ if z (if h value (first_named name left)) (raw_in q w)
-          → Noting q name r.end (if h (if z (record { count = w.count + 1; from = r.value; to = r.end }) (record { count = w.count + 1; from = w.from; to = w.to })) w)
-      turned true true f c g =
-          record {
-            count = omega arith;
-            raw = rw more (g ∙ sym piece.value);
-            none = λ i. absurd (omega (arith, eqb-true (w.count + 1) 0 i));
-            most = omega (arith, piece, n.most);
-            inside = record { ordered = piece.ends; ends = piece.inside };
-          }
-      turned true false f c g =
-          record {
-            count = omega arith;
-            raw = rw more g;
-            none = λ i. absurd (omega (arith, eqb-true (w.count + 1) 0 i));
-            most = omega (arith, piece, n.most);
-            inside = n.inside;
-          }
-      turned false z f c g = record { count = omega arith; raw = rw f g; none = n.none; most = omega (arith, piece, n.most); inside = n.inside }
+      module _ (b : Bor (List ℕ)) (eb : b.now ≡ part r.value (r.end - r.value) q) where
+        turned : (h z : Bool) → eqb w.count 0 ≡ z → occurrences name q ≡ w.count + (if h 1 0 + count_named name left)
+            → raw_value name q ≡ if z (if h value (first_named name left)) w.raw.now
+            → Noting q name r.end (if h (if z (record { count = w.count + 1; raw = b }) (record { count = w.count + 1; raw = w.raw })) w)
+        turned true true f c g =
+            record {
+              count = omega arith;
+              raw = rw more (g ∙ sym piece.value ∙ sym eb);
+              none = λ i. absurd (omega (arith, eqb-true (w.count + 1) 0 i));
+              most = omega (arith, piece, n.most);
+            }
+        turned true false f c g =
+            record {
+              count = omega arith;
+              raw = rw more g;
+              none = λ i. absurd (omega (arith, eqb-true (w.count + 1) 0 i));
+              most = omega (arith, piece, n.most);
+            }
+        turned false z f c g = record { count = omega arith; raw = rw f g; none = n.none; most = omega (arith, piece, n.most) }
 
-      -- it is noted
-      pub noting_turn : (v : Place) → v ≡ noted_by (same (part r.start (r.mid - r.start) q) name) r.value r.end w → Noting q name r.end v
-      unfolding noted_by count_named first_named
-      noting_turn v u =
-          let here : Bool = same (part r.start (r.mid - r.start) q) name in
-          let h : same (name_in (piece_at q r.start)) name ≡ here = sym (ap (λ (l : List ℕ). same l name) piece.name) in
-          rw u
-          (turned here (eqb w.count 0) refl
-          (n.count ∙ ap (λ (ps : List (List ℕ)). w.count + count_named name ps) piece.first ∙ ap (λ (b : Bool). w.count + (if b 1 0 + count_named name left)) h)
-          (n.raw ∙ ap (λ (ps : List (List ℕ)). if (eqb w.count 0) (first_named name ps) (raw_in q w)) piece.first
-          ∙ ap (λ (b : Bool). if (eqb w.count 0) (if b value (first_named name left)) (raw_in q w)) h))
+        -- it is noted
+        pub noting_turn : (v : Place) → v ≡ noted_by (same (part r.start (r.mid - r.start) q) name) b w → Noting q name r.end v
+        unfolding noted_by count_named first_named
+        noting_turn v u =
+            let here : Bool = same (part r.start (r.mid - r.start) q) name in
+            let h : same (name_in (piece_at q r.start)) name ≡ here = sym (ap (λ (l : List ℕ). same l name) piece.name) in
+            rw u
+            (turned here (eqb w.count 0) refl
+            (n.count ∙ ap (λ (ps : List (List ℕ)). w.count + count_named name ps) piece.first ∙ ap (λ (b : Bool). w.count + (if b 1 0 + count_named name left)) h)
+            (n.raw ∙ ap (λ (ps : List (List ℕ)). if (eqb w.count 0) (first_named name ps) w.raw.now) piece.first
+            ∙ ap (λ (b : Bool). if (eqb w.count 0) (if b value (first_named name left)) w.raw.now) h))

@@ -3,7 +3,7 @@
 // a place, and whoever calls `piece_after` has plain parameters too.
 #![tactic(auto)]
 
-ghost use Rattle.std.specs.Prelude.{◌≡◌, ◌+◌, ◌-◌, ◌<◌, drop};
+ghost use Rattle.std.specs.Prelude.{◌≡◌, ◌+◌, ◌-◌, ◌<◌, ◌^◌, drop};
 ghost use Rattle.protocol.specs.Bytes.{same, part};
 ghost use Rattle.protocol.specs.Request.{path_named, path_part, query_part};
 ghost use Rattle.query.specs.Piece.{leading, piece_after};
@@ -27,21 +27,20 @@ pub struct Reader<'a> {
     pub place: Piece,
 }
 
-// What a walk notes of a name: how many pieces have it, and where the raw value of the first lies.
+// What a walk notes of a name: how many pieces have it, and the raw value of the first, a part of the query itself.
 #[derive(Clone, Copy)]
-pub struct Place {
+pub struct Place<'a> {
     pub count: usize,
-    pub from: usize,
-    pub to: usize,
+    pub raw: &'a [u8],
 }
 
 // The same of four names.
 #[derive(Clone, Copy)]
-pub struct Places {
-    pub a: Place,
-    pub b: Place,
-    pub c: Place,
-    pub d: Place,
+pub struct Places<'a> {
+    pub a: Place<'a>,
+    pub b: Place<'a>,
+    pub c: Place<'a>,
+    pub d: Place<'a>,
 }
 
 // Which path a text is.
@@ -153,32 +152,30 @@ pub fn piece_after(query: &[u8], place: Piece) -> Piece
 }
 
 // A piece of some name noted for one that is wanted: where it is that, it is one more, and the first one's value is kept.
-fn noted(place: Place, name: &[u8], wanted: &[u8], from: usize, to: usize) -> Place
-    requires { place.count < from }
-    ensures { result ≡ noted_by (same name.now wanted.now) from to place }
+fn noted<'a>(place: Place<'a>, name: &[u8], wanted: &[u8], raw: &'a [u8]) -> Place<'a>
+    requires { place.count + 1 < 2 ^ 64 }
+    ensures { result ≡ noted_by (same name.now wanted.now) raw.entry place.entry }
 {
     if text::same(name, wanted) {
         let count = place.count + 1;
         if place.count == 0 {
-            return Place { count, from, to };
+            return Place { count, raw };
         }
         return Place {
             count,
-            from: place.from,
-            to: place.to,
+            raw: place.raw,
         };
     }
     place
 }
 
 // The walk: every piece once, and four names noted at each.
-pub fn walk(q: &[u8], a: &[u8], b: &[u8], c: &[u8], d: &[u8]) -> Places
+pub fn walk<'a>(q: &'a [u8], a: &[u8], b: &[u8], c: &[u8], d: &[u8]) -> Places<'a>
     ensures { Walked q.now a.now b.now c.now d.now result }
 {
     let none = Place {
         count: 0,
-        from: 0,
-        to: 0,
+        raw: &q[..0],
     };
     let mut at_a = none;
     let mut at_b = none;
@@ -205,10 +202,11 @@ pub fn walk(q: &[u8], a: &[u8], b: &[u8], c: &[u8], d: &[u8]) -> Places
             };
         }
         let name = &q[start..mid];
-        at_a = noted(at_a, name, a, from, to);
-        at_b = noted(at_b, name, b, from, to);
-        at_c = noted(at_c, name, c, from, to);
-        at_d = noted(at_d, name, d, from, to);
+        let raw = raw_at(q, from, to);
+        at_a = noted(at_a, name, a, raw);
+        at_b = noted(at_b, name, b, raw);
+        at_c = noted(at_c, name, c, raw);
+        at_d = noted(at_d, name, d, raw);
     }
 }
 

@@ -1,118 +1,51 @@
 -- A name judged by what a walk noted of it, and the names of a path together. Assumes nothing.
-use mathlib.Core.Path.{◌≡◌, refl, ap, ◌∙◌}
+use mathlib.Core.Path.{◌≡◌, refl, sym, ap, ◌∙◌}
 use mathlib.Core.Bool.{Bool, true, false, ◌&&◌, ◌||◌, not}
 use mathlib.Core.List.{List, [], ◌∷◌}
-use Prim.Native.Nat.{ℕ, ◌-◌, ◌≤◌, ◌<◌}
+use Prim.Native.Nat.{ℕ, ◌≤◌, ◌<◌}
 use native.Mathlib.Omega.{arith}
 use borrow.Author.Tests.{lt-ltb, le-ltb, leb-true, le-leb}
 use lib.Dec.{leb, ltb}
 use lib.ListN.{length}
+use Rattle.std.specs.Prelude.{Option, Some, None, is_none, option_map, unwrap_or}
 use Rattle.protocol.specs.Utf8.{name_right}
-use Rattle.protocol.specs.Bytes.{if, ascii, same, among, part, all_within}
-use Rattle.protocol.specs.Request.{raw_value, decoded_from, decoded, value_most, chars_right, value_right, bad_name, malformed, login_names, body_names, logout_names, validator_names, proxy_names, value_of, present, asked, posted, leaving, shown, url_shown, wanted}
-use Rattle.protocol.specs.Written.{Room, Wrote}
+use Rattle.protocol.specs.Bytes.{if, ascii, same, among, all_within}
+use Rattle.protocol.specs.Request.{raw_value, decoded, value_most, chars_right, value_right, bad_name, malformed, login_names, body_names, logout_names, validator_names, proxy_names, value_of, present, asked, posted, leaving, shown, url_shown, wanted}
 use Rattle.protocol.specs.declared.Validator.{Validator}
 use Rattle.protocol.specs.declared.Validator.TheVariants as validator
 use Rattle.protocol.proofs.Laws.{both, or_both, or-true, one_test, same-eq, same_refl}
 use Rattle.text.proofs.Laws.{lengths_differ}
 use Rattle.utf8.proofs.Small.{name_bytes}
-use Rattle.query.specs.Place.{Inside, raw_in, Noted, Walked}
+use Rattle.query.specs.Place.{Noted, Walked}
 use Rattle.query.specs.declared.Place.{Place}
 use Rattle.query.specs.declared.Places.{Places}
-use Rattle.decode.specs.Judging.{judged, judged_name}
-use Rattle.decode.specs.declared.Judged.{Judged}
-use Rattle.decode.specs.declared.Judged.TheVariants.{Bad, Good}
-use Rattle.request.specs.Value.{value_at, Readable, judged_as, refused, placed_by, judged_at, text_right, password_right, username_right, judged_callback}
+use Rattle.decode.specs.Judging.{judged, judged_name, decoded_length}
+use Rattle.request.specs.Value.{text_of, Short, right_by, judged_as, callback_as}
 use Rattle.request.specs.Spelled.{AskedIn, PostedIn, LeavingIn, ShownIn, WantedIn}
-use Rattle.request.specs.declared.Value.{Value}
-use Rattle.request.specs.declared.Judgement.{Judgement}
-use Rattle.request.specs.declared.LoginQuery.TheVariants as login-query
-use Rattle.request.specs.declared.LoginBody.TheVariants as login-body
-use Rattle.request.specs.declared.LogoutQuery.TheVariants as logout-query
-use Rattle.request.specs.declared.ValidatorQuery.TheVariants as validator-query
-use Rattle.request.specs.declared.ProxyQuery.TheVariants as proxy-query
+use Rattle.request.specs.declared.value.Value.{Value}
+use Rattle.request.specs.declared.Rule.{Rule}
+use Rattle.request.specs.declared.Rule.TheVariants as rule
+use Rattle.request.specs.declared.LoginQuery.{LoginQuery}
+use Rattle.request.specs.declared.LoginBody.{LoginBody}
+use Rattle.request.specs.declared.ValidatorQuery.{ValidatorQuery}
+use Rattle.request.specs.declared.ProxyQuery.{ProxyQuery}
 
--- `placed`
-module _ (p : Place) (j : Judged) (r : Judgement) where
-  pub placed_bad : j ≡ Bad → r ≡ judged_as true 0 0 0 → r ≡ placed_by p j
-  placed_bad e k = rw e k
+-- `right_length`: each rule is the judge's
+module _ (in_body : Bool) (raw : List ℕ) (o : Option ℕ) (r : Rule) where
+  abbrev by_rule : Option ℕ
+  by_rule = if (right_by r (decoded in_body raw)) (Some (length (decoded in_body raw))) None
 
-  pub placed_twice : (n : ℕ) → j ≡ Good n → 1 < p.count → r ≡ judged_as true 0 0 0 → r ≡ placed_by p j
-  placed_twice n e h k = rw (e, lt-ltb 1 p.count h) k
+  pub plain_right : (most : ℕ) → r ≡ rule.Plain most → o ≡ judged in_body 32 126 most raw → o ≡ by_rule
+  unfolding judged right_by
+  plain_right most e k = rw e k
 
-  pub placed_once : (n : ℕ) → j ≡ Good n → p.count ≤ 1 → r ≡ judged_as false p.from p.to n → r ≡ placed_by p j
-  placed_once n e h k = rw (e, le-ltb 1 p.count h) k
+  pub password_right : r ≡ rule.Password → o ≡ judged in_body 0 255 128 raw → o ≡ by_rule
+  unfolding judged right_by value_right value_most chars_right among same
+  password_right e k = rw e k
 
--- the judges: of a raw value that lies at the place
-module _ (in_body : Bool) (q raw : List ℕ) (p : Place) (er : raw ≡ raw_in q p) (j : Judged) (r : Judgement) (k : r ≡ placed_by p j) where
-  by_right : (right : List ℕ → Bool) → j ≡ if (right (decoded in_body raw)) (Good (length (decoded in_body raw))) Bad → r ≡ judged_at in_body right q p
-  unfolding judged_at
-  by_right right e = k ∙ ap (placed_by p) e ∙ rw er (go (right (decoded in_body (raw_in q p))))
-    where
-      once : (u : Bool) (x y : Judgement) → if u x y ≡ if (u || false) x y
-      once true x y = refl
-      once false x y = refl
-
-      go : (t : Bool) → placed_by p (if t (Good (length (decoded in_body (raw_in q p)))) Bad)
-          ≡ if (ltb 1 p.count || not t) refused (judged_as false p.from p.to (length (decoded in_body (raw_in q p))))
-      go true = once (ltb 1 p.count) refused (judged_as false p.from p.to (length (decoded in_body (raw_in q p))))
-      go false = rw (or-true (ltb 1 p.count))
-
-  pub text_judged : (most : ℕ) → j ≡ judged in_body 32 126 most raw → r ≡ judged_at in_body (text_right most) q p
-  unfolding judged text_right
-  text_judged most e = by_right (text_right most) e
-
-  pub password_judged : j ≡ judged in_body 0 255 128 raw → r ≡ judged_at in_body password_right q p
-  unfolding judged password_right value_right value_most chars_right among same
-  password_judged e = by_right password_right e
-
-  pub username_judged : j ≡ judged_name in_body 64 raw → r ≡ judged_at in_body username_right q p
-  unfolding judged_name username_right value_right value_most chars_right among same
-  username_judged e = by_right username_right e
-
--- the callback's
-module _ (v : Validator) (q : List ℕ) (p : Place) (r : Judgement) where
-  pub callback_skipped : v ≡ validator.Plain → r ≡ judged_as false 0 0 0 → r ≡ judged_callback v q p
-  unfolding judged_callback
-  callback_skipped e k = rw e k
-
-  pub callback_of_service : v ≡ validator.Service → r ≡ judged_at false (text_right 200) q p → r ≡ judged_callback v q p
-  unfolding judged_callback
-  callback_of_service e k = rw e k
-
-  pub callback_of-proxy : v ≡ validator.Proxy → r ≡ judged_at false (text_right 200) q p → r ≡ judged_callback v q p
-  unfolding judged_callback
-  callback_of-proxy e k = rw e k
-
--- `read`
-module _ (in_body : Bool) (q raw old : List ℕ) (v : Value) (h : Readable in_body (length old) q v) (e : raw ≡ part v.from (v.to - v.from) q) where
-  pub read_room : Room old 0 (decoded in_body raw)
-  read_room = record { fits = rw e (omega (arith, h)) }
-
-  pub read_bytes : all_within 0 255 (decoded in_body raw) ≡ true
-  read_bytes = rw e h.bytes
-
-  pub read_wrote : (new : List ℕ) (r : ℕ) → Wrote old 0 new r (decoded in_body raw) → Wrote old 0 new r (value_at in_body q v)
-  read_wrote new r w = rw e at w
-
--- `is_text`
-module _ (in_body : Bool) (q text : List ℕ) (v : Value) where
-  pub text_of_other_length : v.length ≡ length (value_at in_body q v) → (v.length ≡ length text → ⊥) → false ≡ same (value_at in_body q v) text
-  text_of_other_length e x = lengths_differ (value_at in_body q v) text (λ k. x (e ∙ k))
-
-  pub text_in_place : (raw : List ℕ) (r : Bool) → raw ≡ part v.from (v.to - v.from) q → r ≡ same (decoded in_body raw) text → r ≡ same (value_at in_body q v) text
-  text_in_place raw r e k = k ∙ ap (λ (l : List ℕ). same (decoded in_body l) text) e
-
--- for callers: two texts are the same either way
-pub same_either : (a b : List ℕ) → same a b ≡ same b a
-same_either a b = one_test (same a b) (same b a) (turned a b) (turned b a)
-  where
-    turned : (x y : List ℕ) → same x y ≡ true → same y x ≡ true
-    turned x y e = let q : x ≡ y = same-eq x y e in rw q (same_refl y)
-
--- for callers: a value may be read into a buffer of its limit
-pub readable_in : (in_body : Bool) (most : ℕ) (q out : List ℕ) (v : Value) → Readable in_body most q v → most ≤ length out → Readable in_body (length out) q v
-readable_in in_body most q out v h l = record { inside = h.inside; bytes = h.bytes; long = h.long; fits = omega (arith, h.fits) }
+  pub username_right : r ≡ rule.Username → o ≡ judged_name in_body 64 raw → o ≡ by_rule
+  unfolding judged_name right_by value_right value_most chars_right among same
+  username_right e k = rw e k
 
 -- bytes of a narrower range are bytes
 bytes_are : (lo hi : ℕ) (s : List ℕ) → hi ≤ 255 → all_within lo hi s ≡ true → all_within 0 255 s ≡ true
@@ -132,137 +65,245 @@ chars_bytes name v e = go (same name (ascii "password")) (same name (ascii "user
     go false true k = name_bytes v k
     go false false k = bytes_are 32 126 v (omega arith) k
 
--- a name that was judged by which of its values may stand: whether it is bad, and if not, its value and what its decoder needs
-pub record Judges (in_body : Bool) (q name : List ℕ) (r : Judgement) : Type 0 where
-  pub bad : bad_name in_body q name ≡ r.bad
-  pub value : r.bad ≡ false → value_at in_body q r.value ≡ decoded in_body (raw_value name q)
-  pub readable : r.bad ≡ false → Readable in_body (value_most name) q r.value
+-- what may stand by some rule has bytes alone
+right_bytes : (r : Rule) (v : List ℕ) → right_by r v ≡ true → all_within 0 255 v ≡ true
+unfolding right_by value_right
+right_bytes (rule.Plain most) v e = bytes_are 32 126 v (omega arith) (both (leb (length v) most) (all_within 32 126 v) e).1
+right_bytes rule.Password v e = chars_bytes (ascii "password") v (both (leb (length v) (value_most (ascii "password"))) (chars_right (ascii "password") v) e).1
+right_bytes rule.Username v e = chars_bytes (ascii "username") v (both (leb (length v) (value_most (ascii "username"))) (chars_right (ascii "username") v) e).1
+
+some_is_none : {A : Type 0} → (x : A) → ◌≡◌ {A = Option A} (Some x) None → ⊥
+some_is_none x e = let w : ◌≡◌ {A = Bool} false true = ap is_none e in let v : ◌≡◌ {A = ℕ} 0 1 = cc in omega arith
+
+-- `judged`
+module _ (in_body : Bool) (r : Rule) (p : Place) (o : Option ℕ) where
+  abbrev d : List ℕ
+  d = decoded in_body p.raw.now
+
+  module _ (e : o ≡ if (right_by r d) (Some (length d)) None) where
+    told : (n : ℕ) → o ≡ Some n → (t : Bool) → right_by r d ≡ t → (t ≡ true) × (n ≡ length d)
+    told n k true f = let z : ◌≡◌ {A = Option ℕ} (Some n) (Some (length d)) = sym k ∙ e ∙ ap (λ (u : Bool). if u (Some (length d)) None) f in (refl, ap (λ (u : Option ℕ). unwrap_or u 0) z)
+    told n k false f = absurd (some_is_none n (sym k ∙ e ∙ ap (λ (u : Bool). if u (Some (length d)) None) f))
+
+    pub judged_none : (x : Option Value) → x ≡ None → o ≡ None → option_map text_of x ≡ judged_as in_body r p
+    unfolding judged_as
+    judged_none x h k = rw h (go (right_by r d) (sym k ∙ e))
+      where
+        go : (t : Bool) → ◌≡◌ {A = Option ℕ} None (if t (Some (length d)) None) → ◌≡◌ {A = Option (List ℕ)} None (if (ltb 1 p.count || not t) None (Some d))
+        go true z = absurd (some_is_none (length d) (sym z))
+        go false z = rw (or-true (ltb 1 p.count))
+
+    module _ (n : ℕ) (k : o ≡ Some n) where
+      pub judged_measured : n ≡ decoded_length in_body p.raw.now
+      judged_measured = (told n k (right_by r d) refl).1
+
+      pub judged_bytes : all_within 0 255 d ≡ true
+      judged_bytes = right_bytes r d (told n k (right_by r d) refl).0
+
+      pub judged_once : p.count ≤ 1 → ◌≡◌ {A = Option (List ℕ)} (Some d) (judged_as in_body r p)
+      unfolding judged_as
+      judged_once l = rw (le-ltb 1 p.count l, (told n k (right_by r d) refl).0)
+
+  pub judged_twice : 1 < p.count → ◌≡◌ {A = Option (List ℕ)} None (judged_as in_body r p)
+  unfolding judged_as
+  judged_twice h = rw (lt-ltb 1 p.count h)
+
+-- `judged_callback`
+module _ (v : Validator) (p : Place) (x : Option Value) where
+  pub callback_skipped : v ≡ validator.Plain → ◌≡◌ {A = Option (List ℕ)} (Some []) (callback_as v p)
+  unfolding callback_as
+  callback_skipped e = rw e
+
+  pub callback_of_service : v ≡ validator.Service → option_map text_of x ≡ judged_as false (rule.Plain 200) p → option_map text_of x ≡ callback_as v p
+  unfolding callback_as
+  callback_of_service e k = rw e k
+
+  pub callback_of-proxy : v ≡ validator.Proxy → option_map text_of x ≡ judged_as false (rule.Plain 200) p → option_map text_of x ≡ callback_as v p
+  unfolding callback_as
+  callback_of-proxy e k = rw e k
+
+-- `is_text`
+pub text_of_other_length : (v : Value) (text : List ℕ) → (v.length ≡ length text → ⊥) → false ≡ same (text_of v) text
+text_of_other_length v text x = lengths_differ (text_of v) text (λ k. x (v.measured ∙ k))
+
+-- for callers: two texts are the same either way
+pub same_either : (a b : List ℕ) → same a b ≡ same b a
+same_either a b = one_test (same a b) (same b a) (turned a b) (turned b a)
+  where
+    turned : (x y : List ℕ) → same x y ≡ true → same y x ≡ true
+    turned x y e = let q : x ≡ y = same-eq x y e in rw q (same_refl y)
+
+-- a name that is not bad, and its value: what it spells, and its limit
+pub record Judges (in_body : Bool) (q name : List ℕ) (v : Value) : Type 0 where
+  pub good : bad_name in_body q name ≡ false
+  pub value : text_of v ≡ decoded in_body (raw_value name q)
+  pub short : Short (value_most name) v
 
 turned : (t : Bool) → not t ≡ false → t ≡ true
 turned true e = refl
 turned false e = let w : ◌≡◌ {A = ℕ} 0 1 = cc in absurd (omega arith)
 
 module _ (in_body : Bool) (q name : List ℕ) (p : Place) (n : Noted q name p) where
-  abbrev d : List ℕ
-  d = decoded in_body (raw_in q p)
+  abbrev text : List ℕ
+  text = decoded in_body p.raw.now
 
-  same_value : d ≡ decoded in_body (raw_value name q)
-  same_value = ap (decoded in_body) n.raw
+  abbrev bad : Bool
+  bad = ltb 1 p.count || not (value_right name text)
 
-  bad_is : bad_name in_body q name ≡ ltb 1 p.count || not (value_right name d)
+  bad_is : bad_name in_body q name ≡ bad
   unfolding bad_name
   bad_is = rw (← n.count, ← n.raw)
 
-  right_value : (t : Bool) → ltb 1 p.count || not (value_right name d) ≡ t → Judges in_body q name (if t refused (judged_as false p.from p.to (length d)))
+  judges_none : ◌≡◌ {A = Option (List ℕ)} None (if bad None (Some text)) → bad_name in_body q name ≡ true
+  judges_none e = bad_is ∙ go bad e
+    where
+      go : (t : Bool) → ◌≡◌ {A = Option (List ℕ)} None (if t None (Some text)) → t ≡ true
+      go true z = refl
+      go false z = absurd (some_is_none text (sym z))
+
+  judges : (v : Value) → ◌≡◌ {A = Option (List ℕ)} (Some (text_of v)) (if bad None (Some text)) → Judges in_body q name v
   unfolding value_right
-  right_value true e = let never : true ≡ false → ⊥ = λ z. (let w : ◌≡◌ {A = ℕ} 0 1 = cc in omega arith) in record { bad = bad_is ∙ e; value = λ z. absurd (never z); readable = λ z. absurd (never z) }
-  right_value false e =
-      let right = both (leb (length d) (value_most name)) (chars_right name d) (turned (value_right name d) (or_both (ltb 1 p.count) (not (value_right name d)) e).1) in
-      record {
-        bad = bad_is ∙ e;
-        value = λ z. same_value;
-        readable = λ z. record { inside = n.inside; bytes = chars_bytes name d right.1; long = refl; fits = leb-true (length d) (value_most name) right.0 };
-      }
+  judges v e = go bad refl e
+    where
+      go : (t : Bool) → bad ≡ t → ◌≡◌ {A = Option (List ℕ)} (Some (text_of v)) (if t None (Some text)) → Judges in_body q name v
+      go true b z = absurd (some_is_none (text_of v) z)
+      go false b z =
+          let same_text : text_of v ≡ text = ap (λ (u : Option (List ℕ)). unwrap_or u []) z in
+          let right = both (leb (length text) (value_most name)) (chars_right name text) (turned (value_right name text) (or_both (ltb 1 p.count) (not (value_right name text)) b).1) in
+          record {
+            good = bad_is ∙ b;
+            value = same_text ∙ ap (decoded in_body) n.raw;
+            short = record { fits = omega (arith, v.measured, ap length same_text, leb-true (length text) (value_most name) right.0) };
+          }
 
-  judges : (r : Judgement) → r ≡ judged_at in_body (value_right name) q p → Judges in_body q name r
-  unfolding judged_at
-  judges r e = rw e (right_value (ltb 1 p.count || not (value_right name d)) refl)
+-- The names of a path together: one that is bad makes the request malformed.
+module _ (in_body : Bool) (q name : List ℕ) (names : List (List ℕ)) where
+  bad_here : bad_name in_body q name ≡ true → malformed in_body (name ∷ names) q ≡ true
+  unfolding malformed
+  bad_here e = rw e
 
--- The names of a path together, by the order of its judging. What each path reads:
+  bad_later : malformed in_body names q ≡ true → malformed in_body (name ∷ names) q ≡ true
+  unfolding malformed
+  bad_later e = rw (e, or-true (bad_name in_body q name))
 
--- of two, three or four tests none holds
-any2 : (a b : Bool) → a || (b || false) ≡ a || b
-any2 true b = refl
-any2 false true = refl
-any2 false false = refl
+  good_too : bad_name in_body q name ≡ false → malformed in_body names q ≡ false → malformed in_body (name ∷ names) q ≡ false
+  unfolding malformed
+  good_too e k = rw (e, k)
 
-any3 : (a b c : Bool) → a || (b || (c || false)) ≡ a || b || c
-any3 true b c = refl
-any3 false b c = any2 b c
+good_all : (in_body : Bool) (q : List ℕ) → malformed in_body [] q ≡ false
+unfolding malformed
+good_all in_body q = refl
 
-any4 : (a b c d : Bool) → a || (b || (c || (d || false))) ≡ a || b || c || d
-any4 true b c d = refl
-any4 false b c d = any3 b c d
+-- What each path reads.
 
 -- login, GET
-module _ (q x : List ℕ) (w : Places) (f : Walked q (ascii "service") (ascii "renew") (ascii "gateway") x w) (s r g : Judgement) (es : s ≡ judged_at false (text_right 200) q w.a)
-    (er : r ≡ judged_at false (text_right 200) q w.b) (eg : g ≡ judged_at false (text_right 200) q w.c) where
-  asked_service : Judges false q (ascii "service") s
-  unfolding text_right value_right value_most chars_right among same
-  asked_service = judges false q (ascii "service") w.a f.first s es
+module _ (q x : List ℕ) (w : Places) (f : Walked q (ascii "service") (ascii "renew") (ascii "gateway") x w) where
+  module _ (o : Option LoginQuery) (k : o ≡ None) where
+    asked_none : malformed false login_names q ≡ true → AskedIn q o
+    unfolding asked
+    asked_none e = rw k (record { spells = rw e; fits = tt })
 
-  asked_bad : malformed false login_names q ≡ s.bad || r.bad || g.bad
-  unfolding malformed login_names text_right value_right value_most chars_right among same
-  asked_bad =
-      rw
-      (asked_service.bad, (judges false q (ascii "renew") w.b f.second r er).bad, (judges false q (ascii "gateway") w.c f.third g eg).bad)
-      (any3 s.bad r.bad g.bad)
+    pub asked_bad_service : ◌≡◌ {A = Option (List ℕ)} None (judged_as false (rule.Plain 200) w.a) → AskedIn q o
+    unfolding login_names judged_as right_by value_right value_most chars_right among same
+    asked_bad_service e = asked_none (bad_here false q (ascii "service") _ (judges_none false q (ascii "service") w.a f.first e))
 
-  pub asked-malformed : s.bad || r.bad || g.bad ≡ true → AskedIn q login-query.Malformed
-  unfolding asked
-  asked-malformed h = record { spells = rw (asked_bad, h); fits = tt }
+    pub asked_bad_renew : ◌≡◌ {A = Option (List ℕ)} None (judged_as false (rule.Plain 200) w.b) → AskedIn q o
+    unfolding login_names judged_as right_by value_right value_most chars_right among same
+    asked_bad_renew e = asked_none (bad_later false q (ascii "service") _ (bad_here false q (ascii "renew") _ (judges_none false q (ascii "renew") w.b f.second e)))
 
-  pub asked_given : s.bad || r.bad || g.bad ≡ false → AskedIn q (login-query.Given s.value (ltb 0 w.b.count) (ltb 0 w.c.count))
-  unfolding asked value_of present
-  asked_given h =
-      let z = (or_both s.bad r.bad (or_both (s.bad || r.bad) g.bad h).0).0 in
-      record { spells = rw (asked_bad, h, asked_service.value z, f.second.count, f.third.count); fits = asked_service.readable z }
+    pub asked_bad_gateway : ◌≡◌ {A = Option (List ℕ)} None (judged_as false (rule.Plain 200) w.c) → AskedIn q o
+    unfolding login_names judged_as right_by value_right value_most chars_right among same
+    asked_bad_gateway e =
+        asked_none (bad_later false q (ascii "service") _ (bad_later false q (ascii "renew") _ (bad_here false q (ascii "gateway") _ (judges_none false q (ascii "gateway") w.c f.third e))))
+
+  module _ (s r g : Value) (es : ◌≡◌ {A = Option (List ℕ)} (Some (text_of s)) (judged_as false (rule.Plain 200) w.a))
+      (er : ◌≡◌ {A = Option (List ℕ)} (Some (text_of r)) (judged_as false (rule.Plain 200) w.b)) (eg : ◌≡◌ {A = Option (List ℕ)} (Some (text_of g)) (judged_as false (rule.Plain 200) w.c)) where
+    asked_service : Judges false q (ascii "service") s
+    unfolding judged_as right_by value_right value_most chars_right among same
+    asked_service = judges false q (ascii "service") w.a f.first s es
+
+    asked_good : malformed false login_names q ≡ false
+    unfolding login_names judged_as right_by value_right value_most chars_right among same
+    asked_good =
+        good_too false q (ascii "service") _ asked_service.good
+        (good_too false q (ascii "renew") _ (judges false q (ascii "renew") w.b f.second r er).good
+        (good_too false q (ascii "gateway") _ (judges false q (ascii "gateway") w.c f.third g eg).good (good_all false q)))
+
+    pub asked_given : AskedIn q (Some (record { service = s; renew = ltb 0 w.b.count; gateway = ltb 0 w.c.count }))
+    unfolding asked value_of present
+    asked_given = record { spells = rw (asked_good, asked_service.value, f.second.count, f.third.count); fits = asked_service.short }
 
 -- login, POST
-module _ (q : List ℕ) (w : Places) (f : Walked q (ascii "service") (ascii "username") (ascii "password") (ascii "lt") w) (s u p l : Judgement) (es : s ≡ judged_at true (text_right 200) q w.a)
-    (eu : u ≡ judged_at true username_right q w.b) (ep : p ≡ judged_at true password_right q w.c) (el : l ≡ judged_at true (text_right 64) q w.d) where
-  posted_service : Judges true q (ascii "service") s
-  unfolding text_right value_right value_most chars_right among same
-  posted_service = judges true q (ascii "service") w.a f.first s es
+module _ (q : List ℕ) (w : Places) (f : Walked q (ascii "service") (ascii "username") (ascii "password") (ascii "lt") w) where
+  module _ (o : Option LoginBody) (k : o ≡ None) where
+    posted_none : malformed true body_names q ≡ true → PostedIn q o
+    unfolding posted
+    posted_none e = rw k (record { spells = rw e; fits = tt })
 
-  posted_username : Judges true q (ascii "username") u
-  unfolding username_right
-  posted_username = judges true q (ascii "username") w.b f.second u eu
+    pub posted_bad_service : ◌≡◌ {A = Option (List ℕ)} None (judged_as true (rule.Plain 200) w.a) → PostedIn q o
+    unfolding body_names judged_as right_by value_right value_most chars_right among same
+    posted_bad_service e = posted_none (bad_here true q (ascii "service") _ (judges_none true q (ascii "service") w.a f.first e))
 
-  posted_password : Judges true q (ascii "password") p
-  unfolding password_right
-  posted_password = judges true q (ascii "password") w.c f.third p ep
+    pub posted_bad_username : ◌≡◌ {A = Option (List ℕ)} None (judged_as true rule.Username w.b) → PostedIn q o
+    unfolding body_names judged_as right_by
+    posted_bad_username e = posted_none (bad_later true q (ascii "service") _ (bad_here true q (ascii "username") _ (judges_none true q (ascii "username") w.b f.second e)))
 
-  posted-lt : Judges true q (ascii "lt") l
-  unfolding text_right value_right value_most chars_right among same
-  posted-lt = judges true q (ascii "lt") w.d f.fourth l el
+    pub posted_bad_password : ◌≡◌ {A = Option (List ℕ)} None (judged_as true rule.Password w.c) → PostedIn q o
+    unfolding body_names judged_as right_by
+    posted_bad_password e =
+        posted_none (bad_later true q (ascii "service") _ (bad_later true q (ascii "username") _ (bad_here true q (ascii "password") _ (judges_none true q (ascii "password") w.c f.third e))))
 
-  posted_bad : malformed true body_names q ≡ s.bad || u.bad || p.bad || l.bad
-  unfolding malformed body_names
-  posted_bad = rw (posted_service.bad, posted_username.bad, posted_password.bad, posted-lt.bad) (any4 s.bad u.bad p.bad l.bad)
+    pub posted_bad-lt : ◌≡◌ {A = Option (List ℕ)} None (judged_as true (rule.Plain 64) w.d) → PostedIn q o
+    unfolding body_names judged_as right_by value_right value_most chars_right among same
+    posted_bad-lt e =
+        posted_none
+        (bad_later true q (ascii "service") _
+        (bad_later true q (ascii "username") _ (bad_later true q (ascii "password") _ (bad_here true q (ascii "lt") _ (judges_none true q (ascii "lt") w.d f.fourth e)))))
 
-  pub posted-malformed : s.bad || u.bad || p.bad || l.bad ≡ true → PostedIn q login-body.Malformed
-  unfolding posted
-  posted-malformed h = record { spells = rw (posted_bad, h); fits = tt }
+  module _ (s u p l : Value) (es : ◌≡◌ {A = Option (List ℕ)} (Some (text_of s)) (judged_as true (rule.Plain 200) w.a)) (eu : ◌≡◌ {A = Option (List ℕ)} (Some (text_of u)) (judged_as true rule.Username w.b))
+      (ep : ◌≡◌ {A = Option (List ℕ)} (Some (text_of p)) (judged_as true rule.Password w.c)) (el : ◌≡◌ {A = Option (List ℕ)} (Some (text_of l)) (judged_as true (rule.Plain 64) w.d)) where
+    posted_service : Judges true q (ascii "service") s
+    unfolding judged_as right_by value_right value_most chars_right among same
+    posted_service = judges true q (ascii "service") w.a f.first s es
 
-  pub posted_given : s.bad || u.bad || p.bad || l.bad ≡ false → PostedIn q (login-body.Given s.value u.value p.value l.value)
-  unfolding posted value_of
-  posted_given h =
-      let z = or_both (s.bad || u.bad || p.bad) l.bad h in
-      let y = or_both (s.bad || u.bad) p.bad z.0 in
-      let x = or_both s.bad u.bad y.0 in
-      record {
-        spells = rw (posted_bad, h, posted_service.value x.0, posted_username.value x.1, posted_password.value y.1, posted-lt.value z.1);
-        fits = (posted_service.readable x.0, posted_username.readable x.1, posted_password.readable y.1, posted-lt.readable z.1);
-      }
+    posted_username : Judges true q (ascii "username") u
+    unfolding judged_as right_by
+    posted_username = judges true q (ascii "username") w.b f.second u eu
+
+    posted_password : Judges true q (ascii "password") p
+    unfolding judged_as right_by
+    posted_password = judges true q (ascii "password") w.c f.third p ep
+
+    posted-lt : Judges true q (ascii "lt") l
+    unfolding judged_as right_by value_right value_most chars_right among same
+    posted-lt = judges true q (ascii "lt") w.d f.fourth l el
+
+    posted_good : malformed true body_names q ≡ false
+    unfolding body_names
+    posted_good =
+        good_too true q (ascii "service") _ posted_service.good
+        (good_too true q (ascii "username") _ posted_username.good
+        (good_too true q (ascii "password") _ posted_password.good (good_too true q (ascii "lt") _ posted-lt.good (good_all true q))))
+
+    pub posted_given : PostedIn q (Some (record { service = s; username = u; password = p; lt = l }))
+    unfolding posted value_of
+    posted_given =
+        record {
+          spells = rw (posted_good, posted_service.value, posted_username.value, posted_password.value, posted-lt.value);
+          fits = (posted_service.short, posted_username.short, posted_password.short, posted-lt.short);
+        }
 
 -- logout
-module _ (q x y z : List ℕ) (w : Places) (f : Walked q (ascii "url") x y z w) (u : Judgement) (eu : u ≡ judged_at false (text_right 200) q w.a) where
-  leaving_url : Judges false q (ascii "url") u
-  unfolding text_right value_right value_most chars_right among same
-  leaving_url = judges false q (ascii "url") w.a f.first u eu
-
-  leaving_bad : malformed false logout_names q ≡ u.bad || false
-  unfolding malformed logout_names
-  leaving_bad = rw leaving_url.bad
-
-  pub leaving-malformed : u.bad ≡ true → LeavingIn q logout-query.Malformed
-  unfolding leaving
-  leaving-malformed h = record { spells = rw (leaving_bad, h); fits = tt }
-
-  pub leaving_given : u.bad ≡ false → LeavingIn q (logout-query.Given u.value)
-  unfolding leaving value_of
-  leaving_given h = record { spells = rw (leaving_bad, h, leaving_url.value h); fits = leaving_url.readable h }
+module _ (q x y z : List ℕ) (w : Places) (f : Walked q (ascii "url") x y z w) where
+  pub leaving_told : (o : Option Value) → option_map text_of o ≡ judged_as false (rule.Plain 200) w.a → LeavingIn q o
+  unfolding leaving logout_names value_of judged_as right_by value_right value_most chars_right among same
+  leaving_told None e =
+      let b : malformed false logout_names q ≡ true = bad_here false q (ascii "url") _ (judges_none false q (ascii "url") w.a f.first e) in
+      record { spells = rw b; fits = tt }
+  leaving_told (Some u) e =
+      let j : Judges false q (ascii "url") u = judges false q (ascii "url") w.a f.first u e in
+      let g : malformed false logout_names q ≡ false = good_too false q (ascii "url") _ j.good (good_all false q) in
+      record { spells = rw (g, j.value); fits = j.short }
 
 -- the validators: of the callback, what validate does not read is not bad and spells nothing
 unfoldable callback_names : Validator → List (List ℕ)
@@ -276,80 +317,110 @@ names_are validator.Plain = refl
 names_are validator.Service = refl
 names_are validator.Proxy = refl
 
-record Callback (v : Validator) (q : List ℕ) (c : Judgement) : Type 0 where
-  bad : malformed false (callback_names v) q ≡ c.bad || false
-  value : c.bad ≡ false → value_at false q c.value ≡ url_shown v q
-  readable : c.bad ≡ false → Readable false (value_most (ascii "pgtUrl")) q c.value
+record Callback (v : Validator) (q : List ℕ) (c : Value) : Type 0 where
+  good : malformed false (callback_names v) q ≡ false
+  value : text_of c ≡ url_shown v q
+  short : Short (value_most (ascii "pgtUrl")) c
 
-module _ (q : List ℕ) (p : Place) (n : Noted q (ascii "pgtUrl") p) (c : Judgement) where
-  read_url : c ≡ judged_at false (text_right 200) q p → Judges false q (ascii "pgtUrl") c
-  unfolding text_right value_right value_most chars_right among same
-  read_url e = judges false q (ascii "pgtUrl") p n c e
+module _ (q : List ℕ) (p : Place) (n : Noted q (ascii "pgtUrl") p) where
+  bad_url : ◌≡◌ {A = Option (List ℕ)} None (judged_as false (rule.Plain 200) p) → bad_name false q (ascii "pgtUrl") ≡ true
+  unfolding judged_as right_by value_right value_most chars_right among same
+  bad_url e = judges_none false q (ascii "pgtUrl") p n e
 
-  callback : (v : Validator) → c ≡ judged_callback v q p → Callback v q c
-  unfolding judged_callback callback_names malformed value_of decoded_from all_within
-  callback validator.Plain e =
-      let inside : Inside q 0 0 = record { ordered = omega arith; ends = omega arith } in
-      rw e (record { bad = refl; value = λ z. refl; readable = λ z. record { inside = inside; bytes = refl; long = refl; fits = omega arith } })
-  callback validator.Service e = record { bad = rw (read_url e).bad; value = (read_url e).value; readable = (read_url e).readable }
-  callback validator.Proxy e = record { bad = rw (read_url e).bad; value = (read_url e).value; readable = (read_url e).readable }
+  bad_callback : (v : Validator) → ◌≡◌ {A = Option (List ℕ)} None (callback_as v p) → malformed false (callback_names v) q ≡ true
+  unfolding callback_as callback_names
+  bad_callback validator.Plain e = absurd (some_is_none {A = List ℕ} [] (sym e))
+  bad_callback validator.Service e = bad_here false q (ascii "pgtUrl") [] (bad_url e)
+  bad_callback validator.Proxy e = bad_here false q (ascii "pgtUrl") [] (bad_url e)
 
-module _ (v : Validator) (q : List ℕ) (w : Places) (f : Walked q (ascii "service") (ascii "ticket") (ascii "renew") (ascii "pgtUrl") w) (s t r c : Judgement)
-    (es : s ≡ judged_at false (text_right 200) q w.a) (et : t ≡ judged_at false (text_right 64) q w.b) (er : r ≡ judged_at false (text_right 200) q w.c) (ec : c ≡ judged_callback v q w.d) where
-  shown_service : Judges false q (ascii "service") s
-  unfolding text_right value_right value_most chars_right among same
-  shown_service = judges false q (ascii "service") w.a f.first s es
+  module _ (c : Value) where
+    read_url : ◌≡◌ {A = Option (List ℕ)} (Some (text_of c)) (judged_as false (rule.Plain 200) p) → Judges false q (ascii "pgtUrl") c
+    unfolding judged_as right_by value_right value_most chars_right among same
+    read_url e = judges false q (ascii "pgtUrl") p n c e
 
-  shown_ticket : Judges false q (ascii "ticket") t
-  unfolding text_right value_right value_most chars_right among same
-  shown_ticket = judges false q (ascii "ticket") w.b f.second t et
+    callback : (v : Validator) → ◌≡◌ {A = Option (List ℕ)} (Some (text_of c)) (callback_as v p) → Callback v q c
+    unfolding callback_as callback_names value_of
+    callback validator.Plain e =
+        let t : text_of c ≡ [] = ap (λ (u : Option (List ℕ)). unwrap_or u []) e in
+        record { good = good_all false q; value = t; short = record { fits = omega (arith, c.measured, ap length t) } }
+    callback validator.Service e = let j = read_url e in record { good = good_too false q (ascii "pgtUrl") [] j.good (good_all false q); value = j.value; short = j.short }
+    callback validator.Proxy e = let j = read_url e in record { good = good_too false q (ascii "pgtUrl") [] j.good (good_all false q); value = j.value; short = j.short }
 
-  shown_renew : Judges false q (ascii "renew") r
-  unfolding text_right value_right value_most chars_right among same
-  shown_renew = judges false q (ascii "renew") w.c f.third r er
+module _ (v : Validator) (q : List ℕ) (w : Places) (f : Walked q (ascii "service") (ascii "ticket") (ascii "renew") (ascii "pgtUrl") w) where
+  module _ (o : Option ValidatorQuery) (k : o ≡ None) where
+    shown_none : malformed false (ascii "service" ∷ ascii "ticket" ∷ ascii "renew" ∷ callback_names v) q ≡ true → ShownIn v q o
+    unfolding shown
+    shown_none e = rw k (record { spells = rw (names_are v, e); fits = tt })
 
-  shown_url : Callback v q c
-  shown_url = callback q w.d f.fourth c v ec
+    pub shown_bad_service : ◌≡◌ {A = Option (List ℕ)} None (judged_as false (rule.Plain 200) w.a) → ShownIn v q o
+    unfolding judged_as right_by value_right value_most chars_right among same
+    shown_bad_service e = shown_none (bad_here false q (ascii "service") _ (judges_none false q (ascii "service") w.a f.first e))
 
-  shown_bad : malformed false (validator_names v) q ≡ s.bad || t.bad || r.bad || c.bad
-  unfolding malformed
-  shown_bad = rw (names_are v, shown_service.bad, shown_ticket.bad, shown_renew.bad, shown_url.bad) (any4 s.bad t.bad r.bad c.bad)
+    pub shown_bad_ticket : ◌≡◌ {A = Option (List ℕ)} None (judged_as false (rule.Plain 64) w.b) → ShownIn v q o
+    unfolding judged_as right_by value_right value_most chars_right among same
+    shown_bad_ticket e = shown_none (bad_later false q (ascii "service") _ (bad_here false q (ascii "ticket") _ (judges_none false q (ascii "ticket") w.b f.second e)))
 
-  pub shown-malformed : s.bad || t.bad || r.bad || c.bad ≡ true → ShownIn v q validator-query.Malformed
-  unfolding shown
-  shown-malformed h = record { spells = rw (shown_bad, h); fits = tt }
+    pub shown_bad_renew : ◌≡◌ {A = Option (List ℕ)} None (judged_as false (rule.Plain 200) w.c) → ShownIn v q o
+    unfolding judged_as right_by value_right value_most chars_right among same
+    shown_bad_renew e =
+        shown_none (bad_later false q (ascii "service") _ (bad_later false q (ascii "ticket") _ (bad_here false q (ascii "renew") _ (judges_none false q (ascii "renew") w.c f.third e))))
 
-  pub shown_given : s.bad || t.bad || r.bad || c.bad ≡ false → ShownIn v q (validator-query.Given s.value t.value (ltb 0 w.c.count) c.value)
-  unfolding shown value_of present
-  shown_given h =
-      let z = or_both (s.bad || t.bad || r.bad) c.bad h in
-      let x = or_both s.bad t.bad (or_both (s.bad || t.bad) r.bad z.0).0 in
-      record {
-        spells = rw (shown_bad, h, shown_service.value x.0, shown_ticket.value x.1, f.third.count, shown_url.value z.1);
-        fits = (shown_service.readable x.0, shown_ticket.readable x.1, shown_url.readable z.1);
-      }
+    pub shown_bad_url : ◌≡◌ {A = Option (List ℕ)} None (callback_as v w.d) → ShownIn v q o
+    shown_bad_url e =
+        shown_none (bad_later false q (ascii "service") _ (bad_later false q (ascii "ticket") _ (bad_later false q (ascii "renew") _ (bad_callback q w.d f.fourth v e))))
+
+  module _ (s t r c : Value) (es : ◌≡◌ {A = Option (List ℕ)} (Some (text_of s)) (judged_as false (rule.Plain 200) w.a)) (et : ◌≡◌ {A = Option (List ℕ)} (Some (text_of t)) (judged_as false (rule.Plain 64) w.b))
+      (er : ◌≡◌ {A = Option (List ℕ)} (Some (text_of r)) (judged_as false (rule.Plain 200) w.c)) (ec : ◌≡◌ {A = Option (List ℕ)} (Some (text_of c)) (callback_as v w.d)) where
+    shown_service : Judges false q (ascii "service") s
+    unfolding judged_as right_by value_right value_most chars_right among same
+    shown_service = judges false q (ascii "service") w.a f.first s es
+
+    shown_ticket : Judges false q (ascii "ticket") t
+    unfolding judged_as right_by value_right value_most chars_right among same
+    shown_ticket = judges false q (ascii "ticket") w.b f.second t et
+
+    shown_url : Callback v q c
+    shown_url = callback q w.d f.fourth c v ec
+
+    shown_good : malformed false (validator_names v) q ≡ false
+    unfolding judged_as right_by value_right value_most chars_right among same
+    shown_good =
+        ap (λ (ns : List (List ℕ)). malformed false ns q) (names_are v)
+        ∙ good_too false q (ascii "service") _ shown_service.good
+        (good_too false q (ascii "ticket") _ shown_ticket.good (good_too false q (ascii "renew") _ (judges false q (ascii "renew") w.c f.third r er).good shown_url.good))
+
+    pub shown_given : ShownIn v q (Some (record { service = s; ticket = t; renew = ltb 0 w.c.count; pgt_url = c }))
+    unfolding shown value_of present
+    shown_given = record { spells = rw (shown_good, shown_service.value, shown_ticket.value, f.third.count, shown_url.value); fits = (shown_service.short, shown_ticket.short, shown_url.short) }
 
 -- proxy
-module _ (q x y : List ℕ) (w : Places) (f : Walked q (ascii "pgt") (ascii "targetService") x y w) (p t : Judgement) (ep : p ≡ judged_at false (text_right 64) q w.a)
-    (et : t ≡ judged_at false (text_right 200) q w.b) where
-  wanted_pgt : Judges false q (ascii "pgt") p
-  unfolding text_right value_right value_most chars_right among same
-  wanted_pgt = judges false q (ascii "pgt") w.a f.first p ep
+module _ (q x y : List ℕ) (w : Places) (f : Walked q (ascii "pgt") (ascii "targetService") x y w) where
+  module _ (o : Option ProxyQuery) (k : o ≡ None) where
+    wanted_none : malformed false proxy_names q ≡ true → WantedIn q o
+    unfolding wanted
+    wanted_none e = rw k (record { spells = rw e; fits = tt })
 
-  wanted_target : Judges false q (ascii "targetService") t
-  unfolding text_right value_right value_most chars_right among same
-  wanted_target = judges false q (ascii "targetService") w.b f.second t et
+    pub wanted_bad_pgt : ◌≡◌ {A = Option (List ℕ)} None (judged_as false (rule.Plain 64) w.a) → WantedIn q o
+    unfolding proxy_names judged_as right_by value_right value_most chars_right among same
+    wanted_bad_pgt e = wanted_none (bad_here false q (ascii "pgt") _ (judges_none false q (ascii "pgt") w.a f.first e))
 
-  wanted_bad : malformed false proxy_names q ≡ p.bad || t.bad
-  unfolding malformed proxy_names
-  wanted_bad = rw (wanted_pgt.bad, wanted_target.bad) (any2 p.bad t.bad)
+    pub wanted_bad_target : ◌≡◌ {A = Option (List ℕ)} None (judged_as false (rule.Plain 200) w.b) → WantedIn q o
+    unfolding proxy_names judged_as right_by value_right value_most chars_right among same
+    wanted_bad_target e = wanted_none (bad_later false q (ascii "pgt") _ (bad_here false q (ascii "targetService") _ (judges_none false q (ascii "targetService") w.b f.second e)))
 
-  pub wanted-malformed : p.bad || t.bad ≡ true → WantedIn q proxy-query.Malformed
-  unfolding wanted
-  wanted-malformed h = record { spells = rw (wanted_bad, h); fits = tt }
+  module _ (p t : Value) (ep : ◌≡◌ {A = Option (List ℕ)} (Some (text_of p)) (judged_as false (rule.Plain 64) w.a)) (et : ◌≡◌ {A = Option (List ℕ)} (Some (text_of t)) (judged_as false (rule.Plain 200) w.b)) where
+    wanted_pgt : Judges false q (ascii "pgt") p
+    unfolding judged_as right_by value_right value_most chars_right among same
+    wanted_pgt = judges false q (ascii "pgt") w.a f.first p ep
 
-  pub wanted_given : p.bad || t.bad ≡ false → WantedIn q (proxy-query.Given p.value t.value)
-  unfolding wanted value_of
-  wanted_given h =
-      let z = or_both p.bad t.bad h in
-      record { spells = rw (wanted_bad, h, wanted_pgt.value z.0, wanted_target.value z.1); fits = (wanted_pgt.readable z.0, wanted_target.readable z.1) }
+    wanted_target : Judges false q (ascii "targetService") t
+    unfolding judged_as right_by value_right value_most chars_right among same
+    wanted_target = judges false q (ascii "targetService") w.b f.second t et
+
+    wanted_good : malformed false proxy_names q ≡ false
+    unfolding proxy_names
+    wanted_good = good_too false q (ascii "pgt") _ wanted_pgt.good (good_too false q (ascii "targetService") _ wanted_target.good (good_all false q))
+
+    pub wanted_given : WantedIn q (Some (record { pgt = p; target = t }))
+    unfolding wanted value_of
+    wanted_given = record { spells = rw (wanted_good, wanted_pgt.value, wanted_target.value); fits = (wanted_pgt.short, wanted_target.short) }

@@ -1,92 +1,82 @@
--- What the answer for each path spells: what the request asks, by the meaning; and each value may be decoded from its place.
-use Rattle.std.specs.Prelude.{◌≡◌, true, false, List, ℕ}
+-- What the answer for each path spells: what the request asks, by the meaning; and each value is no longer than its name's limit.
+use Rattle.std.specs.Prelude.{◌≡◌, List, ℕ, Option, Some, None}
 use Prim.Native.String.{String}
 use Rattle.protocol.specs.Bytes.{ascii}
 use Rattle.protocol.specs.Request.{value_most, Read, Asked, asked, Posted, posted, leaving, Shown, shown, Wanted, wanted}
 use Rattle.protocol.specs.Request as read
 use Rattle.protocol.specs.declared.Validator.{Validator}
-use Rattle.request.specs.declared.Value.{Value}
+use Rattle.request.specs.declared.value.Value.{Value}
 use Rattle.request.specs.declared.LoginQuery.{LoginQuery}
-use Rattle.request.specs.declared.LoginQuery.TheVariants as login-query
 use Rattle.request.specs.declared.LoginBody.{LoginBody}
-use Rattle.request.specs.declared.LoginBody.TheVariants as login-body
-use Rattle.request.specs.declared.LogoutQuery.{LogoutQuery}
-use Rattle.request.specs.declared.LogoutQuery.TheVariants as logout-query
 use Rattle.request.specs.declared.ValidatorQuery.{ValidatorQuery}
-use Rattle.request.specs.declared.ValidatorQuery.TheVariants as validator-query
 use Rattle.request.specs.declared.ProxyQuery.{ProxyQuery}
-use Rattle.request.specs.declared.ProxyQuery.TheVariants as proxy-query
-use Rattle.request.specs.Value.{value_at, Readable}
+use Rattle.request.specs.Value.{text_of, Short}
 
--- a value of a query or body that may be decoded, by its name's limit
-abbrev pub InQuery : String → List ℕ → Value → Type 0
-InQuery name q v = Readable false (value_most (ascii name)) q v
-
-abbrev pub InBody : String → List ℕ → Value → Type 0
-InBody name q v = Readable true (value_most (ascii name)) q v
+-- a value within its name's limit
+abbrev pub Within : String → Value → Type 0
+Within name v = Short (value_most (ascii name)) v
 
 -- login, GET
-abbrev pub spelled_asked : List ℕ → LoginQuery → Read Asked
-spelled_asked q login-query.Malformed = read.Malformed
-spelled_asked q (login-query.Given s r g) = read.Given (record { service = value_at false q s; renew = r; gateway = g })
+abbrev pub spelled_asked : Option LoginQuery → Read Asked
+spelled_asked None = read.Malformed
+spelled_asked (Some a) = read.Given (record { service = text_of a.service; renew = a.renew; gateway = a.gateway })
 
-abbrev pub AskedFits : List ℕ → LoginQuery → Type 0
-AskedFits q login-query.Malformed = Unit
-AskedFits q (login-query.Given s r g) = InQuery "service" q s
+abbrev pub AskedFits : Option LoginQuery → Type 0
+AskedFits None = Unit
+AskedFits (Some a) = Within "service" a.service
 
-pub record AskedIn (q : List ℕ) (r : LoginQuery) : Type 0 where
-  pub spells : spelled_asked q r ≡ asked q
-  pub fits : AskedFits q r
+pub record AskedIn (q : List ℕ) (r : Option LoginQuery) : Type 0 where
+  pub spells : spelled_asked r ≡ asked q
+  pub fits : AskedFits r
 
 -- login, POST
-abbrev pub spelled_posted : List ℕ → LoginBody → Read Posted
-spelled_posted body login-body.Malformed = read.Malformed
-spelled_posted body (login-body.Given s u p l) =
-    read.Given (record { service = value_at true body s; username = value_at true body u; password = value_at true body p; lt = value_at true body l })
+abbrev pub spelled_posted : Option LoginBody → Read Posted
+spelled_posted None = read.Malformed
+spelled_posted (Some p) = read.Given (record { service = text_of p.service; username = text_of p.username; password = text_of p.password; lt = text_of p.lt })
 
-abbrev pub PostedFits : List ℕ → LoginBody → Type 0
-PostedFits body login-body.Malformed = Unit
-PostedFits body (login-body.Given s u p l) = InBody "service" body s × InBody "username" body u × InBody "password" body p × InBody "lt" body l
+abbrev pub PostedFits : Option LoginBody → Type 0
+PostedFits None = Unit
+PostedFits (Some p) = Within "service" p.service × Within "username" p.username × Within "password" p.password × Within "lt" p.lt
 
-pub record PostedIn (body : List ℕ) (r : LoginBody) : Type 0 where
-  pub spells : spelled_posted body r ≡ posted body
-  pub fits : PostedFits body r
+pub record PostedIn (body : List ℕ) (r : Option LoginBody) : Type 0 where
+  pub spells : spelled_posted r ≡ posted body
+  pub fits : PostedFits r
 
 -- logout
-abbrev pub spelled_leaving : List ℕ → LogoutQuery → Read (List ℕ)
-spelled_leaving q logout-query.Malformed = read.Malformed
-spelled_leaving q (logout-query.Given u) = read.Given (value_at false q u)
+abbrev pub spelled_leaving : Option Value → Read (List ℕ)
+spelled_leaving None = read.Malformed
+spelled_leaving (Some url) = read.Given (text_of url)
 
-abbrev pub LeavingFits : List ℕ → LogoutQuery → Type 0
-LeavingFits q logout-query.Malformed = Unit
-LeavingFits q (logout-query.Given u) = InQuery "url" q u
+abbrev pub LeavingFits : Option Value → Type 0
+LeavingFits None = Unit
+LeavingFits (Some url) = Within "url" url
 
-pub record LeavingIn (q : List ℕ) (r : LogoutQuery) : Type 0 where
-  pub spells : spelled_leaving q r ≡ leaving q
-  pub fits : LeavingFits q r
+pub record LeavingIn (q : List ℕ) (r : Option Value) : Type 0 where
+  pub spells : spelled_leaving r ≡ leaving q
+  pub fits : LeavingFits r
 
 -- the validators
-abbrev pub spelled_shown : List ℕ → ValidatorQuery → Read Shown
-spelled_shown q validator-query.Malformed = read.Malformed
-spelled_shown q (validator-query.Given s t r u) = read.Given (record { service = value_at false q s; ticket = value_at false q t; renew = r; pgt_url = value_at false q u })
+abbrev pub spelled_shown : Option ValidatorQuery → Read Shown
+spelled_shown None = read.Malformed
+spelled_shown (Some s) = read.Given (record { service = text_of s.service; ticket = text_of s.ticket; renew = s.renew; pgt_url = text_of s.pgt_url })
 
-abbrev pub ShownFits : List ℕ → ValidatorQuery → Type 0
-ShownFits q validator-query.Malformed = Unit
-ShownFits q (validator-query.Given s t r u) = InQuery "service" q s × InQuery "ticket" q t × InQuery "pgtUrl" q u
+abbrev pub ShownFits : Option ValidatorQuery → Type 0
+ShownFits None = Unit
+ShownFits (Some s) = Within "service" s.service × Within "ticket" s.ticket × Within "pgtUrl" s.pgt_url
 
-pub record ShownIn (v : Validator) (q : List ℕ) (r : ValidatorQuery) : Type 0 where
-  pub spells : spelled_shown q r ≡ shown v q
-  pub fits : ShownFits q r
+pub record ShownIn (v : Validator) (q : List ℕ) (r : Option ValidatorQuery) : Type 0 where
+  pub spells : spelled_shown r ≡ shown v q
+  pub fits : ShownFits r
 
 -- proxy
-abbrev pub spelled_wanted : List ℕ → ProxyQuery → Read Wanted
-spelled_wanted q proxy-query.Malformed = read.Malformed
-spelled_wanted q (proxy-query.Given p t) = read.Given (record { pgt = value_at false q p; target = value_at false q t })
+abbrev pub spelled_wanted : Option ProxyQuery → Read Wanted
+spelled_wanted None = read.Malformed
+spelled_wanted (Some w) = read.Given (record { pgt = text_of w.pgt; target = text_of w.target })
 
-abbrev pub WantedFits : List ℕ → ProxyQuery → Type 0
-WantedFits q proxy-query.Malformed = Unit
-WantedFits q (proxy-query.Given p t) = InQuery "pgt" q p × InQuery "targetService" q t
+abbrev pub WantedFits : Option ProxyQuery → Type 0
+WantedFits None = Unit
+WantedFits (Some w) = Within "pgt" w.pgt × Within "targetService" w.target
 
-pub record WantedIn (q : List ℕ) (r : ProxyQuery) : Type 0 where
-  pub spells : spelled_wanted q r ≡ wanted q
-  pub fits : WantedFits q r
+pub record WantedIn (q : List ℕ) (r : Option ProxyQuery) : Type 0 where
+  pub spells : spelled_wanted r ≡ wanted q
+  pub fits : WantedFits r

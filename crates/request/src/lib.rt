@@ -1,18 +1,19 @@
 // A request read once: one walk over its query or body finds the names that its path uses, each value is judged once, and the
-// answer is malformed, or where the values lie in the caller's own bytes and what is set. A value is compared where it lies, and
-// nothing is written unless it is decoded from there into a lent buffer.
+// answer is none where it is malformed, else its values, each the part of the caller's own bytes where it lies, and what is set.
+// A value is compared where it lies, and nothing is written unless it is decoded from there into a lent buffer.
 #![tactic(auto)]
 
-ghost use Rattle.std.specs.Prelude.{◌≡◌, true, false, length};
-ghost use Rattle.protocol.specs.Bytes.{same};
-ghost use Rattle.protocol.specs.Written.{Wrote};
-ghost use Rattle.query.specs.Place.{Inside};
-ghost use Rattle.request.specs.Value.{value_at, Readable, text_right, password_right, username_right, judged_as, placed_by, judged_at, judged_callback};
+ghost use Rattle.std.specs.Prelude.{◌≡◌, length, Some, None, option_map};
+ghost use Rattle.protocol.specs.Bytes.{if};
+ghost use Rattle.protocol.specs.Request.{decoded};
+ghost use Rattle.request.specs.Value.{text_of, right_by, judged_as, callback_as};
 ghost use Rattle.request.specs.Spelled.{AskedIn, PostedIn, LeavingIn, ShownIn, WantedIn};
 
-use decode::Judged;
+mod value;
+
 use protocol::Validator;
 use query::Place;
+pub use value::Value;
 
 // The longest decoded values: of username, lt, ticket and pgt; of password; of the others.
 pub const SHORT: usize = 64;
@@ -21,228 +22,147 @@ pub const PASSWORD: usize = 128;
 
 pub const LONG: usize = 200;
 
-// A raw value's place, and its length when decoded, 0 where it is absent.
-#[derive(Clone, Copy)]
-pub struct Value {
-    pub from: usize,
-    pub to: usize,
-    pub length: usize,
-}
-
-// A used name judged: bad, or its value.
-#[derive(Clone, Copy)]
-pub struct Judgement {
-    pub bad: bool,
-    pub value: Value,
-}
-
 // What the names of a path ask: values, and what is set by being present.
 #[derive(Clone, Copy)]
-pub enum LoginQuery {
-    Malformed,
-    Given {
-        service: Value,
-        renew: bool,
-        gateway: bool,
-    },
+pub struct LoginQuery<'a> {
+    pub service: Value<'a>,
+    pub renew: bool,
+    pub gateway: bool,
 }
 
 #[derive(Clone, Copy)]
-pub enum LoginBody {
-    Malformed,
-    Given {
-        service: Value,
-        username: Value,
-        password: Value,
-        lt: Value,
-    },
+pub struct LoginBody<'a> {
+    pub service: Value<'a>,
+    pub username: Value<'a>,
+    pub password: Value<'a>,
+    pub lt: Value<'a>,
 }
 
 #[derive(Clone, Copy)]
-pub enum LogoutQuery {
-    Malformed,
-    Given { url: Value },
+pub struct ValidatorQuery<'a> {
+    pub service: Value<'a>,
+    pub ticket: Value<'a>,
+    pub renew: bool,
+    pub pgt_url: Value<'a>,
 }
 
 #[derive(Clone, Copy)]
-pub enum ValidatorQuery {
-    Malformed,
-    Given {
-        service: Value,
-        ticket: Value,
-        renew: bool,
-        pgt_url: Value,
-    },
+pub struct ProxyQuery<'a> {
+    pub pgt: Value<'a>,
+    pub target: Value<'a>,
 }
 
+// Which values may stand for a name: plain text up to a limit, any bytes, or a name in UTF-8.
 #[derive(Clone, Copy)]
-pub enum ProxyQuery {
-    Malformed,
-    Given { pgt: Value, target: Value },
+enum Rule {
+    Plain(usize),
+    Password,
+    Username,
 }
 
-fn judged_as(bad: bool, from: usize, to: usize, length: usize) -> Judgement
-    ensures { result ≡ judged_as bad from to length }
+// The length of a value that may stand.
+fn right_length(raw: &[u8], in_body: bool, rule: Rule) -> Option<usize>
+    ensures { result ≡ if (right_by rule (decoded in_body raw.now)) (Some (length (decoded in_body raw.now))) None }
 {
-    let value = Value { from, to, length };
-    Judgement { bad, value }
-}
-
-// A judged value with its place. A name that stands twice is bad.
-fn placed(place: Place, value: Judged) -> Judgement
-    ensures { result ≡ placed_by place value }
-{
-    let Judged::Good(length) = value else {
-        return judged_as(true, 0, 0, 0);
-    };
-    if 1 < place.count {
-        return judged_as(true, 0, 0, 0);
+    match rule {
+        Rule::Plain(most) => decode::judge(raw, in_body, 32, 126, most),
+        Rule::Password => decode::judge(raw, in_body, 0, 255, PASSWORD),
+        Rule::Username => decode::judge_name(raw, in_body, SHORT),
     }
-    judged_as(false, place.from, place.to, length)
 }
 
-fn judge_text(q: &[u8], place: Place, in_body: bool, most: usize) -> Judgement
-    requires { Inside q.now place.from place.to }
-    ensures { result ≡ judged_at in_body (text_right most) q.now place }
+// A name judged by what was noted of it. One that stands twice is bad.
+fn judged<'a>(place: Place<'a>, in_body: bool, rule: Rule) -> Option<Value<'a>>
+    ensures { option_map text_of result ≡ judged_as in_body rule place.entry }
 {
-    let raw = query::raw_at(q, place.from, place.to);
-    placed(place, decode::judge(raw, in_body, 32, 126, most))
-}
-
-fn judge_password(body: &[u8], place: Place) -> Judgement
-    requires { Inside body.now place.from place.to }
-    ensures { result ≡ judged_at true password_right body.now place }
-{
-    let raw = query::raw_at(body, place.from, place.to);
-    placed(place, decode::judge(raw, true, 0, 255, PASSWORD))
-}
-
-fn judge_username(body: &[u8], place: Place) -> Judgement
-    requires { Inside body.now place.from place.to }
-    ensures { result ≡ judged_at true username_right body.now place }
-{
-    let raw = query::raw_at(body, place.from, place.to);
-    placed(place, decode::judge_name(raw, true, SHORT))
+    let raw = place.raw;
+    let length = right_length(raw, in_body, rule)?;
+    if 1 < place.count {
+        return None;
+    }
+    Some(Value {
+        raw,
+        in_body,
+        length,
+    })
 }
 
 // The callback's name, which /cas/validate does not use.
-fn judge_callback(validator: Validator, q: &[u8], place: Place) -> Judgement
-    requires { Inside q.now place.from place.to }
-    ensures { result ≡ judged_callback validator q.now place }
+fn judged_callback<'a>(validator: Validator, place: Place<'a>) -> Option<Value<'a>>
+    ensures { option_map text_of result ≡ callback_as validator place.entry }
 {
     match validator {
-        Validator::Plain => judged_as(false, 0, 0, 0),
-        Validator::Service => judge_text(q, place, false, LONG),
-        Validator::Proxy => judge_text(q, place, false, LONG),
+        Validator::Plain => {
+            let raw = &place.raw[..0];
+            Some(Value {
+                raw,
+                in_body: false,
+                length: 0,
+            })
+        }
+        Validator::Service => judged(place, false, Rule::Plain(LONG)),
+        Validator::Proxy => judged(place, false, Rule::Plain(LONG)),
     }
 }
 
-pub fn login_query(q: &[u8]) -> LoginQuery
+pub fn login_query<'a>(q: &'a [u8]) -> Option<LoginQuery<'a>>
     ensures { AskedIn q.now result }
 {
     let found = query::walk(q, b"service", b"renew", b"gateway", b"");
-    let s = judge_text(q, found.a, false, LONG);
-    let r = judge_text(q, found.b, false, LONG);
-    let g = judge_text(q, found.c, false, LONG);
-    if s.bad | r.bad | g.bad {
-        return LoginQuery::Malformed;
-    }
-    let service = s.value;
-    LoginQuery::Given {
+    let service = judged(found.a, false, Rule::Plain(LONG))?;
+    judged(found.b, false, Rule::Plain(LONG))?;
+    judged(found.c, false, Rule::Plain(LONG))?;
+    Some(LoginQuery {
         service,
         renew: 0 < found.b.count,
         gateway: 0 < found.c.count,
-    }
+    })
 }
 
-pub fn login_body(body: &[u8]) -> LoginBody
+pub fn login_body<'a>(body: &'a [u8]) -> Option<LoginBody<'a>>
     ensures { PostedIn body.now result }
 {
     let found = query::walk(body, b"service", b"username", b"password", b"lt");
-    let s = judge_text(body, found.a, true, LONG);
-    let u = judge_username(body, found.b);
-    let p = judge_password(body, found.c);
-    let l = judge_text(body, found.d, true, SHORT);
-    if s.bad | u.bad | p.bad | l.bad {
-        return LoginBody::Malformed;
-    }
-    let service = s.value;
-    let username = u.value;
-    let password = p.value;
-    let lt = l.value;
-    LoginBody::Given {
+    let service = judged(found.a, true, Rule::Plain(LONG))?;
+    let username = judged(found.b, true, Rule::Username)?;
+    let password = judged(found.c, true, Rule::Password)?;
+    let lt = judged(found.d, true, Rule::Plain(SHORT))?;
+    Some(LoginBody {
         service,
         username,
         password,
         lt,
-    }
+    })
 }
 
-pub fn logout_query(q: &[u8]) -> LogoutQuery
+pub fn logout_query<'a>(q: &'a [u8]) -> Option<Value<'a>>
     ensures { LeavingIn q.now result }
 {
     let found = query::walk(q, b"url", b"", b"", b"");
-    let u = judge_text(q, found.a, false, LONG);
-    if u.bad {
-        return LogoutQuery::Malformed;
-    }
-    let url = u.value;
-    LogoutQuery::Given { url }
+    judged(found.a, false, Rule::Plain(LONG))
 }
 
-pub fn validator_query(validator: Validator, q: &[u8]) -> ValidatorQuery
+pub fn validator_query<'a>(validator: Validator, q: &'a [u8]) -> Option<ValidatorQuery<'a>>
     ensures { ShownIn validator q.now result }
 {
     let found = query::walk(q, b"service", b"ticket", b"renew", b"pgtUrl");
-    let s = judge_text(q, found.a, false, LONG);
-    let t = judge_text(q, found.b, false, SHORT);
-    let r = judge_text(q, found.c, false, LONG);
-    let c = judge_callback(validator, q, found.d);
-    if s.bad | t.bad | r.bad | c.bad {
-        return ValidatorQuery::Malformed;
-    }
-    let service = s.value;
-    let ticket = t.value;
-    let pgt_url = c.value;
-    ValidatorQuery::Given {
+    let service = judged(found.a, false, Rule::Plain(LONG))?;
+    let ticket = judged(found.b, false, Rule::Plain(SHORT))?;
+    judged(found.c, false, Rule::Plain(LONG))?;
+    let pgt_url = judged_callback(validator, found.d)?;
+    Some(ValidatorQuery {
         service,
         ticket,
         renew: 0 < found.c.count,
         pgt_url,
-    }
+    })
 }
 
-pub fn proxy_query(q: &[u8]) -> ProxyQuery
+pub fn proxy_query<'a>(q: &'a [u8]) -> Option<ProxyQuery<'a>>
     ensures { WantedIn q.now result }
 {
     let found = query::walk(q, b"pgt", b"targetService", b"", b"");
-    let p = judge_text(q, found.a, false, SHORT);
-    let t = judge_text(q, found.b, false, LONG);
-    if p.bad | t.bad {
-        return ProxyQuery::Malformed;
-    }
-    let pgt = p.value;
-    let target = t.value;
-    ProxyQuery::Given { pgt, target }
-}
-
-// A value decoded from its place to the front of a lent buffer.
-pub fn read(q: &[u8], value: Value, in_body: bool, out: &mut [u8]) -> usize
-    requires { Readable in_body (length out.old) q.now value }
-    ensures { Wrote out.old 0 out.new result (value_at in_body q.now value) }
-{
-    let raw = query::raw_at(q, value.from, value.to);
-    decode::decode_value(raw, in_body, out)
-}
-
-// Whether a value is this text, compared where it lies.
-pub fn is_text(q: &[u8], value: Value, in_body: bool, text: &[u8]) -> bool
-    requires { (Inside q.now value.from value.to) × (value.length ≡ length (value_at in_body q.now value)) }
-    ensures { result ≡ same (value_at in_body q.now value) text.now }
-{
-    if value.length != text.len() {
-        return false;
-    }
-    let raw = query::raw_at(q, value.from, value.to);
-    decode::is_text(raw, in_body, text)
+    let pgt = judged(found.a, false, Rule::Plain(SHORT))?;
+    let target = judged(found.b, false, Rule::Plain(LONG))?;
+    Some(ProxyQuery { pgt, target })
 }

@@ -1,11 +1,13 @@
 -- The callback at the place. Assumes nothing.
 use borrow.Author.Rules.{rules}
-use Rattle.register.proofs.Laws.{callback_nowhere}
-use Rattle.known.proofs.Laws.{callback_there}
+use Rattle.known.proofs.Laws.{place_inside, callback_there, callback_none}
 use Rattle.known.proofs.callback_of.Goals as goal
 
-pub returns-then-k-register : goal.returns-then-k-register
-returns-then-k-register c = search (rules, callback_there)
+pub callback_at-requires : goal.callback_at-requires
+callback_at-requires c = search (rules, place_inside)
 
-pub returns : goal.returns
-returns c = search (rules, callback_nowhere)
+pub returns-in-Some : goal.returns-in-Some
+returns-in-Some c = search (rules, callback_there)
+
+pub returns-in-None : goal.returns-in-None
+returns-in-None c = search (rules, callback_none)

@@ -1,0 +1,2 @@
+-- Where a service stands in a register.
+pub mod Standing
