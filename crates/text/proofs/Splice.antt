@@ -12,11 +12,10 @@ use Prim.Native.Nat.{ℕ, ◌+◌, ◌≤◌, ◌<◌}
 use native.Mathlib.Nat.{add-zero}
 use native.Mathlib.Numerals.{add-one}
 use native.Mathlib.Omega.{arith}
-use lib.ListN.{length, take, drop, get_or, set, length-append, length-drop, length-set, take-append-drop, drop_of_length-le}
+use lib.ListN.{length, take, drop, set, length-append, length-set, take-append-drop}
 use lib.Seq.{take_at, drop-append-add, drop-drop, length-take-le, set_split}
 use Rattle.protocol.specs.Bytes.{spliced, joined}
 use Rattle.protocol.specs.Written.{Room, Wrote}
-use Rattle.protocol.proofs.Laws.{drop-step}
 
 pub splice_nil : (d : List ℕ) (at : ℕ) → spliced d at [] ≡ d
 unfolding spliced
@@ -123,17 +122,6 @@ left_byte {d} {whole} {e} {all} {at} {to} {b} rest l q = left_put {a = b ∷ []}
 
 pub left_lt : {d whole e all : List ℕ} {at to : ℕ} → Left d at whole e to all → 0 < length all → to < length e
 left_lt l h = omega (arith, l.ends, l.room, l.same)
-
--- a loop that copies s
-module _ (d s e : List ℕ) (at to i : ℕ) (l : Left d at s e to (drop i s)) where
-  pub copy_room : i < length s → to < length e
-  copy_room h = left_lt l (omega (arith, length-drop i s))
-
-  pub copy_turn : i < length s → Left d at s (set e to (get_or s i 0)) (to + 1) (drop (i + 1) s)
-  copy_turn h = left_byte (drop (i + 1) s) l (drop-step s i h)
-
-  pub copy_done : length s ≤ i → Wrote d at e to s
-  copy_done h = left_done (rw (drop_of_length-le s h) at l)
 
 -- a text in parts: what is due at `to` of e is the parts ps
 pub record Due (d : List ℕ) (at : ℕ) (whole e : List ℕ) (to : ℕ) (ps : List (List ℕ)) : Type 0 where
