@@ -1,14 +1,16 @@
 -- The leaves' laws, in the form in which the code knows its facts. Assumes nothing.
 use mathlib.Core.Path.{◌≡◌, refl, sym, ap, ◌∙◌}
+use mathlib.Core.Bool.{Bool, true, false, cond}
 use mathlib.Core.List.{List, [], ◌∷◌, ◌++◌, append_assoc}
 use Prim.Native.Nat.{ℕ, zero, suc, ◌+◌, ◌-◌, ◌*◌, ◌/◌, ◌≤◌, ◌<◌}
 use native.Mathlib.Nat.{zero-add}
 use native.Mathlib.Omega.{arith}
-use borrow.Author.Tests.{eq-eqb, ne_eqb}
-use lib.Dec.{lit≤}
+use native.Mathlib.Numerals.{add-one}
+use lib.Dec.{eqb, lit≤}
 use lib.ListN.{length, take, drop, get_or, length-append, length-take, length-drop, length-replicate, drop_of_length-le, get_or-eq_default}
 use lib.Seq.{drop-cons, take_at, drop_at, length-take-le}
-use Rattle.protocol.specs.Bytes.{part, num, bytes_of, zeros, pad_to, spliced}
+use Rattle.std.specs.List.{filter, range_with_len}
+use Rattle.protocol.specs.Bytes.{if, part, num, bytes_of, zeros, pad_to, spliced}
 use Rattle.protocol.specs.Blocks.{house_check, sealed}
 use Rattle.protocol.specs.Records.{Rec, free_rec, rec_body, encode_rec, decode_rec}
 use Rattle.protocol.specs.Table.{table_of, head_body, decode_table, rec_at, count_kind, last_time}
@@ -20,7 +22,7 @@ use Rattle.protocol.proofs.Sound.{free_fits}
 use Rattle.block.proofs.Lay.{laid_first, laid_next, lent, front}
 use Rattle.protocol.proofs.Held.{slot_of, block_of, fits_of, laid_rec, laid_head}
 use Rattle.table.specs.declared.Fields.{Fields}
-use Rattle.table.specs.Parts.{Block, Bit, fields_of, rec_of, numbers_of, texts_of, turned_bytes}
+use Rattle.table.specs.Parts.{Block, fields_of, rec_of, numbers_of, texts_of, turned_bytes}
 use Rattle.table.proofs.Free.{free_bytes}
 
 -- Reading
@@ -77,13 +79,18 @@ module _ (t : List ℕ) (k : ℕ) {b : List ℕ} (at : Block k t b) where
       let h : 44 + n - 44 ≡ num 40 2 b = omega arith in
       rw h at.text
 
--- the numbers of a block, or none where there is no such slot
-pub fields_none : (t : List ℕ) (k : ℕ) → k ≡ 0 → fields_of free_rec ≡ fields_of (said_at k t)
-fields_none t k z = rw z
+-- the numbers of a block, or a free record's, all 0, where there is no such slot
+pub all_zero : (f : Fields) → f.kind ≡ 0 → f.mark ≡ 0 → f.parent ≡ 0 → f.session ≡ 0 → f.depth ≡ 0 → f.serial ≡ 0 → f.expiry ≡ 0 → f.since ≡ 0 → f ≡ fields_of free_rec
+all_zero f a b c d e g h i =
+    let z : record { kind = f.kind; mark = f.mark; parent = f.parent; session = f.session; depth = f.depth; serial = f.serial; expiry = f.expiry; since = f.since } ≡ fields_of free_rec = rw (a, b, c, d, e, g, h, i) in
+    z
 
-pub fields_beyond : (t : List ℕ) (k : ℕ) → (k ≡ 0 → ⊥) → length t / 512 ≤ k → fields_of free_rec ≡ fields_of (said_at k t)
-fields_beyond t zero z g = absurd (z refl)
-fields_beyond t (suc k) z g = ap fields_of (sym (get_or-eq_default (decode_table t).slots free_rec {n = k} (omega (arith, slots_count t))))
+pub fields_none : (t : List ℕ) (k : ℕ) {f : Fields} → f ≡ fields_of free_rec → k ≡ 0 → f ≡ fields_of (said_at k t)
+fields_none t k e z = rw (e, z)
+
+pub fields_beyond : (t : List ℕ) (k : ℕ) {f : Fields} → f ≡ fields_of free_rec → (k ≡ 0 → ⊥) → length t / 512 ≤ k → f ≡ fields_of (said_at k t)
+fields_beyond t zero e z g = absurd (z refl)
+fields_beyond t (suc k) e z g = e ∙ ap fields_of (sym (get_or-eq_default (decode_table t).slots free_rec {n = k} (omega (arith, slots_count t))))
 
 pub slot_there : (t : List ℕ) (k : ℕ) → (k ≡ 0 → ⊥) → k < length t / 512 → In k t
 slot_there t zero z g = absurd (z refl)
@@ -105,35 +112,23 @@ slots_from slots k l h =
 
 -- Counting
 
-pub record Counting (b : List ℕ) (kind c k : ℕ) : Type 0 where
-  pub low : 1 ≤ k
-  pub high : k ≤ length b / 512
-  pub small : c ≤ k
-  pub rest : c + count_kind kind (drop (k - 1) (decode_table b).slots) ≡ count_kind kind (decode_table b).slots
+-- the slots behind the first k that pass a test of their kind
+behind : (kind : ℕ) (slots : List Rec) (k n : ℕ) → k + n ≡ length slots → length (filter (λ i. eqb (rec_at i slots).kind kind) (range_with_len (k + 1) n)) ≡ count_kind kind (drop k slots)
+unfolding count_kind
+behind kind slots k zero h = rw (drop_of_length-le slots {i = k} (omega arith))
+behind kind slots k (suc n) h =
+    let r : Rec = get_or slots k free_rec in
+    let d : drop k slots ≡ r ∷ drop (suc k) slots = drop-cons slots k free_rec (omega arith) in
+    let e : length (filter (λ i. eqb (rec_at i slots).kind kind) (range_with_len (suc k + 1) n)) ≡ count_kind kind (drop (suc k) slots) = behind kind slots (suc k) n (omega arith) in
+    let s : k + 1 ≡ suc k = add-one k in
+    rw (d, s) (one (eqb r.kind kind) (range_with_len (suc k + 1) n) (suc k) (λ i. eqb (rec_at i slots).kind kind) e)
+  where
+    one : (q : Bool) (xs : List ℕ) (x : ℕ) (p : ℕ → Bool) {m : ℕ} → length (filter p xs) ≡ m → length (cond q (x ∷ filter p xs) (filter p xs)) ≡ if q 1 0 + m
+    one true xs x p e = omega arith
+    one false xs x p e = omega arith
 
-module _ (b : List ℕ) (kind : ℕ) where
-  pub count_start : 512 ≤ length b → Counting b kind 0 1
-  count_start h = record { low = lit≤ tt; high = omega arith; small = lit≤ tt; rest = zero-add _ }
-
-  pub count_next : (c k r : ℕ) → Counting b kind c k → k < length b / 512 → Bit kind (rec_at k (decode_table b).slots) r → Counting b kind (c + r) (k + 1)
-  unfolding count_kind
-  count_next c k r l h e =
-      let s = slots_from (decode_table b).slots k l.low (omega (arith, slots_count b)) in
-      let z = rw (s, sym e.is) at l.rest in
-      record { low = omega arith; high = omega arith; small = omega (arith, l.small, e.small); rest = omega arith }
-
-  pub count_done : (c k : ℕ) → Counting b kind c k → length b / 512 ≤ k → c ≡ count_kind kind (decode_table b).slots
-  unfolding count_kind
-  count_done c k l h =
-      let d : drop (k - 1) (decode_table b).slots ≡ [] = drop_of_length-le (decode_table b).slots {i = k - 1} (omega (arith, slots_count b)) in
-      let z = rw d at l.rest in
-      omega arith
-
-pub bit_one : (x : Rec) (kind : ℕ) {n : ℕ} → n ≡ x.kind → n ≡ kind → Bit kind x 1
-bit_one x kind e z = record { is = rw (eq-eqb x.kind kind (sym e ∙ z)); small = lit≤ tt }
-
-pub bit_zero : (x : Rec) (kind : ℕ) {n : ℕ} → n ≡ x.kind → (n ≡ kind → ⊥) → Bit kind x 0
-bit_zero x kind e z = record { is = rw (ne_eqb x.kind kind (λ y. z (e ∙ y))); small = lit≤ tt }
+pub slots_counted : (b : List ℕ) (kind : ℕ) → 512 ≤ length b → length (filter (λ k. eqb (said_at k b).kind kind) (range_with_len 1 (length b / 512 - 1))) ≡ count_kind kind (decode_table b).slots
+slots_counted b kind h = behind kind (decode_table b).slots 0 (length b / 512 - 1) (omega (arith, slots_count b))
 
 -- Filling a block
 

@@ -1,6 +1,6 @@
 -- A record's block in parts: numbers in front, texts behind them. What stands where is protocol's Records.
-use Rattle.std.specs.Prelude.{◌≡◌, List, [], ◌∷◌, ◌++◌, ℕ, ◌*◌, ◌≤◌, eqb, length, get_or}
-use Rattle.protocol.specs.Bytes.{if, part, num, pad_to, zeros, bytes_of, spliced}
+use Rattle.std.specs.Prelude.{◌≡◌, List, [], ◌∷◌, ◌++◌, ℕ, ◌*◌, length, get_or}
+use Rattle.protocol.specs.Bytes.{part, num, pad_to, zeros, bytes_of, spliced}
 use Rattle.protocol.specs.Records.{Rec, decode_rec, at_kind, at_mark, at_parent, at_session, at_depth, at_serial, at_expiry, at_secret, at_length, at_text, at_iou, at_since}
 use Rattle.protocol.specs.Table.{Table, rec_at}
 use Rattle.protocol.specs.Steps.{put, turned}
@@ -23,11 +23,6 @@ pub record Block (k : ℕ) (table b : List ℕ) : Type 0 where
   pub text : part at_text (num at_length 2 b) b ≡ (said_at k table).text
   pub iou : part at_iou 16 b ≡ (said_at k table).iou
   pub since : num at_since 8 b ≡ (said_at k table).since
-
--- r is 1 where the record is of the kind, else 0
-pub record Bit (kind : ℕ) (x : Rec) (r : ℕ) : Type 0 where
-  pub is : r ≡ if (eqb x.kind kind) 1 0
-  pub small : r ≤ 1
 
 -- the numbers of a record
 abbrev pub fields_of : Rec → Fields
