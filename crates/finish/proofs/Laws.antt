@@ -21,8 +21,7 @@ use Rattle.protocol.proofs.Sizes.{iou_most}
 use Rattle.protocol.proofs.Held.{fits_of, sound_held, session_in}
 use Rattle.protocol.proofs.Told.{said_done, only_said, done_as}
 use Rattle.text.proofs.Splice.{read_back}
-use Rattle.table_find.specs.declared.Found.{Found}
-use Rattle.table_find.specs.declared.Found.TheVariants.{At, Nothing}
+use Rattle.std.specs.Prelude.{Option, Some, None}
 use Rattle.table_find.specs.Searches.{found_at}
 use Rattle.table_find.proofs.Laws.{found_is, found_low, found_none, waiting_slot_lem}
 use Rattle.success.specs.Walk.{Told}
@@ -84,7 +83,7 @@ module _ (b : List ℕ) (k : ℕ) (w : Waits k b) where
 
 -- What is found by its serial waits
 
-module _ (b : List ℕ) (l : Lawful b) (serial : ℕ) {f : Found} (e : f ≡ found_at (waiting_slot serial (decode_table b))) where
+module _ (b : List ℕ) (l : Lawful b) (serial : ℕ) {f : Option ℕ} (e : f ≡ found_at (waiting_slot serial (decode_table b))) where
   abbrev t : Table
   t = decode_table b
 
@@ -97,7 +96,7 @@ module _ (b : List ℕ) (l : Lawful b) (serial : ℕ) {f : Found} (e : f ≡ fou
       let p = both (eqb r.kind a_waiting && live t.clock r) (eqb r.serial serial) c.passes in
       eqb-true r.kind 5 (both (eqb r.kind a_waiting) (live t.clock r) p.0).0
 
-  module _ {k : ℕ} (g : f ≡ At k) where
+  module _ {k : ℕ} (g : f ≡ Some k) where
     pub found_waits : Waits k b
     found_waits =
         let q = found_is (waiting_slot serial t) e g in
@@ -107,6 +106,6 @@ module _ (b : List ℕ) (l : Lawful b) (serial : ℕ) {f : Found} (e : f ≡ fou
     unfolding finish
     finish_at_lem y o o' b' r d = let q = found_is (waiting_slot serial t) e g in rw q at d
 
-  pub finish_none : f ≡ Nothing → (y : Bool) (o o' : List ℕ) (r : Outcome) → Said (Failure InvalidTicket) r o o' → Done (finish serial y t) r b o o'
+  pub finish_none : f ≡ None → (y : Bool) (o o' : List ℕ) (r : Outcome) → Said (Failure InvalidTicket) r o o' → Done (finish serial y t) r b o o'
   unfolding finish finish_at
   finish_none g y o o' r s = let q = found_none (waiting_slot serial t) e g in done_as (rw q) (only_said l.fine s)

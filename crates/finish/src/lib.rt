@@ -8,7 +8,6 @@ ghost use Rattle.protocol.specs.Held.{Lawful, Said, Does, said_at};
 ghost use Rattle.finish.specs.Waits.{Waits, told_of, granted, refused, settled};
 
 use protocol::Outcome;
-use table_find::Found;
 use xml::Code;
 
 // Success of the waiting grant in a slot: its session's user, by the mark that it keeps, an IOU if it is not empty, and the proxies from its parent on.
@@ -68,7 +67,7 @@ pub fn finish(table: &mut [u8], serial: u32, outcome: bool, out: &mut [u8]) -> O
     ensures { Does (finish serial outcome) result table.old table.new out.old out.new }
 {
     match table_find::find_waiting(table, serial) {
-        Found::At(slot) => settle(table, slot, outcome, out),
-        Found::Nothing => reply::say_failure(out, Code::InvalidTicket),
+        Some(slot) => settle(table, slot, outcome, out),
+        None => reply::say_failure(out, Code::InvalidTicket),
     }
 }

@@ -21,8 +21,7 @@ use Rattle.protocol.specs.declared.Way.TheVariants.{Unknown, SignedOn, Away, For
 use Rattle.protocol.proofs.Laws.{both}
 use Rattle.protocol.proofs.Told.{only_said, done_as}
 use Rattle.protocol.proofs.Held.{found_in}
-use Rattle.table_find.specs.declared.Found.{Found}
-use Rattle.table_find.specs.declared.Found.TheVariants.{At, Nothing}
+use Rattle.std.specs.Prelude.{Option, Some, None}
 use Rattle.table_find.specs.Searches.{found_at}
 use Rattle.table_find.proofs.Laws.{found_is, found_low, found_none}
 use Rattle.request.specs.Value.{value_at, Readable}
@@ -52,8 +51,8 @@ module _ (b service cookie : List ℕ) (unknown renew gateway : Bool) where
         away true = refl
         away false = refl
 
-    module _ (h : renew ≡ false) {f : Found} (s : f ≡ found_at (slot_named 2 cookie t)) where
-      pub way_signed : {k : ℕ} → f ≡ At k → SignedOn k ≡ way_of unknown (asking service renew gateway) cookie t
+    module _ (h : renew ≡ false) {f : Option ℕ} (s : f ≡ found_at (slot_named 2 cookie t)) where
+      pub way_signed : {k : ℕ} → f ≡ Some k → SignedOn k ≡ way_of unknown (asking service renew gateway) cookie t
       unfolding way_of
       way_signed {k} q =
           rw (z, h, ← found_is (slot_named 2 cookie t) s q) (some k (found_low (slot_named 2 cookie t) s q))
@@ -61,7 +60,7 @@ module _ (b service cookie : List ℕ) (unknown renew gateway : Bool) where
           some : (k : ℕ) → 1 ≤ k → SignedOn k ≡ if (ltb 0 k) (SignedOn k) (if (gateway && true && not (is_empty service)) Away Form)
           some k l = rw (lt-ltb 0 k l)
 
-      pub way_none : f ≡ Nothing → length service ≡ 0 → Form ≡ way_of unknown (asking service renew gateway) cookie t
+      pub way_none : f ≡ None → length service ≡ 0 → Form ≡ way_of unknown (asking service renew gateway) cookie t
       unfolding way_of
       way_none q l = rw (z, h, found_none (slot_named 2 cookie t) s q, none_given service l) (never gateway)
         where
@@ -69,11 +68,11 @@ module _ (b service cookie : List ℕ) (unknown renew gateway : Bool) where
           never true = refl
           never false = refl
 
-      pub way_away : f ≡ Nothing → (length service ≡ 0 → ⊥) → gateway ≡ true → Away ≡ way_of unknown (asking service renew gateway) cookie t
+      pub way_away : f ≡ None → (length service ≡ 0 → ⊥) → gateway ≡ true → Away ≡ way_of unknown (asking service renew gateway) cookie t
       unfolding way_of
       way_away q l w = rw (z, h, found_none (slot_named 2 cookie t) s q, some_given service l, w)
 
-      pub way_form : f ≡ Nothing → (length service ≡ 0 → ⊥) → gateway ≡ false → Form ≡ way_of unknown (asking service renew gateway) cookie t
+      pub way_form : f ≡ None → (length service ≡ 0 → ⊥) → gateway ≡ false → Form ≡ way_of unknown (asking service renew gateway) cookie t
       unfolding way_of
       way_form q l w = rw (z, h, found_none (slot_named 2 cookie t) s q, some_given service l, w)
 

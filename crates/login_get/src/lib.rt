@@ -12,7 +12,6 @@ ghost use Rattle.issue.specs.Offers.{Offer};
 
 use protocol::{Outcome, Way};
 use request::{LoginQuery, Value};
-use table_find::Found;
 
 fn way_of(
     table: &[u8],
@@ -31,7 +30,7 @@ fn way_of(
     if renew {
         return Way::Form;
     }
-    if let Found::At(s) = table_find::find_named(table, ticket::Session::KIND, cookie) {
+    if let Some(s) = table_find::find_named(table, ticket::Session::KIND, cookie) {
         return Way::SignedOn(s);
     }
     if service.len() == 0 {

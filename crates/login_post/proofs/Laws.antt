@@ -21,8 +21,7 @@ use Rattle.protocol.proofs.Searches.{empty}
 use Rattle.protocol.proofs.Told.{only_said, did_as, done_did}
 use Rattle.protocol.proofs.Held.{holds_self}
 use Rattle.text.proofs.Splice.{read_back}
-use Rattle.table_find.specs.declared.Found.{Found}
-use Rattle.table_find.specs.declared.Found.TheVariants.{At, Nothing}
+use Rattle.std.specs.Prelude.{Option, Some, None}
 use Rattle.table_find.specs.Searches.{found_at}
 use Rattle.table_find.proofs.Laws.{found_is, found_none}
 use Rattle.request.specs.Value.{value_at, Readable}
@@ -35,11 +34,11 @@ use Rattle.session.specs.Signing.{Signing}
 use Rattle.login_post.specs.Given.{Spent, Supplied, judged}
 
 -- `spend`
-module _ (b lt : List ℕ) {f : Found} (e : f ≡ found_at (slot_named 1 lt (decode_table b))) where
-  pub spent_found : {k : ℕ} {b' : List ℕ} → f ≡ At k → Holds b' (remove k (decode_table b)) → Spent lt b b' k
+module _ (b lt : List ℕ) {f : Option ℕ} (e : f ≡ found_at (slot_named 1 lt (decode_table b))) where
+  pub spent_found : {k : ℕ} {b' : List ℕ} → f ≡ Some k → Holds b' (remove k (decode_table b)) → Spent lt b b' k
   spent_found z h = record { slot = found_is (slot_named 1 lt (decode_table b)) e z; table = h }
 
-  pub spent_none : f ≡ Nothing → Fine b → Spent lt b b 0
+  pub spent_none : f ≡ None → Fine b → Spent lt b b 0
   spent_none z h = record { slot = sym (found_none (slot_named 1 lt (decode_table b)) e z); table = holds_self b h }
 
 -- `spend_given`: its text as it was decoded

@@ -14,7 +14,6 @@ ghost use Rattle.login_post.specs.Given.{Spent, Supplied, judged};
 
 use protocol::{Admission, Outcome};
 use request::{LoginBody, Value};
-use table_find::Found;
 
 // The live login ticket of this text is removed; its slot is answered, 0 for none.
 fn spend(table: &mut [u8], lt: &[u8]) -> usize
@@ -22,11 +21,11 @@ fn spend(table: &mut [u8], lt: &[u8]) -> usize
     ensures { Spent lt.now table.old table.new result }
 {
     match table_find::find_named(table, ticket::Login::KIND, lt) {
-        Found::At(k) => {
+        Some(k) => {
             table::free_record(table, k);
             k
         }
-        Found::Nothing => 0,
+        None => 0,
     }
 }
 

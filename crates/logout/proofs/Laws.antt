@@ -18,8 +18,7 @@ use Rattle.protocol.specs.declared.Outcome.{Outcome}
 use Rattle.protocol.proofs.Held.{holds_self}
 use Rattle.protocol.proofs.Told.{only_said}
 use Rattle.table_find.specs.Searches.{found_at}
-use Rattle.table_find.specs.declared.Found.{Found}
-use Rattle.table_find.specs.declared.Found.TheVariants.{At, Nothing}
+use Rattle.std.specs.Prelude.{Option, Some, None}
 use Rattle.table_find.proofs.Laws.{found_is, found_low, found_none}
 use Rattle.request.specs.Value.{value_at, Readable}
 use Rattle.request.specs.Spelled.{spelled_leaving, LeavingFits, LeavingIn}
@@ -29,14 +28,14 @@ use Rattle.request.specs.declared.LogoutQuery.TheVariants as logout-query
 use Rattle.logout.specs.Leaving.{leaving as leaves}
 
 -- the session ended, or none was there
-pub ended : (b b' cookie : List ℕ) (k : ℕ) {f : Found} → f ≡ found_at (slot_named a_session cookie (decode_table b)) → f ≡ At k → Holds b' (end_session k (decode_table b)) → Holds b' (without_session cookie (decode_table b))
+pub ended : (b b' cookie : List ℕ) (k : ℕ) {f : Option ℕ} → f ≡ found_at (slot_named a_session cookie (decode_table b)) → f ≡ Some k → Holds b' (end_session k (decode_table b)) → Holds b' (without_session cookie (decode_table b))
 unfolding without_session
 ended b b' cookie k e a h =
     let s : k ≡ slot_named a_session cookie (decode_table b) = found_is (slot_named a_session cookie (decode_table b)) e a in
     let n : 1 ≤ k = found_low (slot_named a_session cookie (decode_table b)) e a in
     rw (ne_eqb (slot_named a_session cookie (decode_table b)) 0 (λ z. omega arith)) (rw s at h)
 
-pub nobody : (b cookie : List ℕ) {f : Found} → f ≡ found_at (slot_named a_session cookie (decode_table b)) → f ≡ Nothing → Fine b → Holds b (without_session cookie (decode_table b))
+pub nobody : (b cookie : List ℕ) {f : Option ℕ} → f ≡ found_at (slot_named a_session cookie (decode_table b)) → f ≡ None → Fine b → Holds b (without_session cookie (decode_table b))
 unfolding without_session
 nobody b cookie e a h =
     let s : slot_named a_session cookie (decode_table b) ≡ 0 = found_none (slot_named a_session cookie (decode_table b)) e a in

@@ -12,7 +12,6 @@ ghost use Rattle.logout.specs.Leaving.{Given, leaving};
 
 use protocol::Outcome;
 use request::{LogoutQuery, Value};
-use table_find::Found;
 
 // The cookie's live session ends, where there is one.
 fn end_named(table: &mut [u8], cookie: &[u8])
@@ -20,8 +19,8 @@ fn end_named(table: &mut [u8], cookie: &[u8])
     ensures { Holds table.new (without_session cookie.now (decode_table table.old)) }
 {
     match table_find::find_named(table, ticket::Session::KIND, cookie) {
-        Found::At(s) => table_edit::end_session(table, s),
-        Found::Nothing => {}
+        Some(s) => table_edit::end_session(table, s),
+        None => {}
     }
 }
 

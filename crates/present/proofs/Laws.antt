@@ -28,8 +28,7 @@ use Rattle.protocol.proofs.Told.{only_said, done_as}
 use Rattle.text.proofs.Splice.{read_back}
 use Rattle.request.specs.Value.{value_at, Readable}
 use Rattle.request.specs.declared.Value.{Value}
-use Rattle.table_find.specs.declared.Found.{Found}
-use Rattle.table_find.specs.declared.Found.TheVariants.{At, Nothing}
+use Rattle.std.specs.Prelude.{Option, Some, None}
 use Rattle.table_find.specs.Searches.{found_at}
 use Rattle.table_find.proofs.Laws.{found_is, found_low, found_none, ticket_slot_lem}
 use Rattle.xml.specs.Codes.{code_of}
@@ -196,19 +195,19 @@ module _ (v : Validator) (k : ℕ) (rec : Rec) (renew : Bool) (service url : Lis
 
 -- What is found
 
-pub given_found : (q d e b : List ℕ) (v : Value) (n : ℕ) (f : Found) → Wrote d 0 e n (value_at false q v) → f ≡ found_at (ticket_slot (take n e) (decode_table b))
+pub given_found : (q d e b : List ℕ) (v : Value) (n : ℕ) (f : Option ℕ) → Wrote d 0 e n (value_at false q v) → f ≡ found_at (ticket_slot (take n e) (decode_table b))
     → f ≡ found_at (ticket_slot (value_at false q v) (decode_table b))
 given_found q d e b v n f w h = rw (read_back d e (value_at false q v) n w) at h
 
-module _ (b text : List ℕ) {f : Found} (e : f ≡ found_at (ticket_slot text (decode_table b))) where
-  pub found_spendable : {k : ℕ} → f ≡ At k → Spendable k b
+module _ (b text : List ℕ) {f : Option ℕ} (e : f ≡ found_at (ticket_slot text (decode_table b))) where
+  pub found_spendable : {k : ℕ} → f ≡ Some k → Spendable k b
   found_spendable {k} y =
       let q = found_is (ticket_slot text (decode_table b)) e y in
       let z = ticket_live text (decode_table b) (omega (arith, found_low (ticket_slot text (decode_table b)) e y)) in
       record { slot = ticket_slot_lem b y text e; least = rw q z.least; most = rw q z.most; lasts = rw q z.lasts }
 
   module _ (v : Validator) (renew : Bool) (service url g random o o' : List ℕ) (r : Outcome) where
-    pub presented_at : {k : ℕ} → f ≡ At k → (b' : List ℕ) → Done (ruled (ruling_of v renew service (rec_at k (decode_table b).slots)) v k (rec_at k (decode_table b).slots) service url (bringing g random) (remove k (decode_table b))) r b' o o'
+    pub presented_at : {k : ℕ} → f ≡ Some k → (b' : List ℕ) → Done (ruled (ruling_of v renew service (rec_at k (decode_table b).slots)) v k (rec_at k (decode_table b).slots) service url (bringing g random) (remove k (decode_table b))) r b' o o'
         → Done (presented v (ticket_slot text (decode_table b)) renew service url (bringing g random) (decode_table b)) r b' o o'
     unfolding presented
     presented_at {k} y b' d =
@@ -216,7 +215,7 @@ module _ (b text : List ℕ) {f : Found} (e : f ≡ found_at (ticket_slot text (
         let n : eqb k 0 ≡ false = ne_eqb k 0 (λ w. omega (arith, found_low (ticket_slot text (decode_table b)) e y)) in
         rw (sym q) (done_as (rw n) d)
 
-    pub presented_none : f ≡ Nothing → Lent b g random o → Said (failed v InvalidTicket) r o o'
+    pub presented_none : f ≡ None → Lent b g random o → Said (failed v InvalidTicket) r o o'
         → Done (presented v (ticket_slot text (decode_table b)) renew service url (bringing g random) (decode_table b)) r b o o'
     unfolding presented
     presented_none y h s = let q = found_none (ticket_slot text (decode_table b)) e y in done_as (rw q) (only_said h.lawful.fine s)

@@ -13,7 +13,6 @@ ghost use Rattle.present.specs.Presented.{Values, grants_to, burnt, spent, shown
 
 use protocol::{Outcome, Ruling, Validator};
 use request::Value;
-use table_find::Found;
 use xml::Code;
 
 // A failure as a validator says it: `no`, or XML.
@@ -147,7 +146,7 @@ fn spend(
 }
 
 // The live service or proxy ticket that a value names.
-fn find_given(table: &[u8], q: &[u8], ticket: Value) -> Found
+fn find_given(table: &[u8], q: &[u8], ticket: Value) -> Option<usize>
     requires { (Fine table.now) × (Readable false 64 q.now ticket) }
     ensures { result ≡ found_at (ticket_slot (value_at false q.now ticket) (decode_table table.now)) }
 {
@@ -175,9 +174,9 @@ pub fn show(
         result table.old table.new out.old out.new }
 {
     match find_given(table, q, ticket) {
-        Found::At(slot) => spend(
+        Some(slot) => spend(
             table, register, validator, slot, renew, q, service, url, random, out,
         ),
-        Found::Nothing => fail(validator, Code::InvalidTicket, out),
+        None => fail(validator, Code::InvalidTicket, out),
     }
 }

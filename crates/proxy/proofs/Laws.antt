@@ -23,8 +23,7 @@ use Rattle.protocol.proofs.Told.{only_said, done_as}
 use Rattle.protocol.proofs.Searches.{empty, slot_live}
 use Rattle.text.proofs.Splice.{read_back}
 use Rattle.table_find.specs.Searches.{found_at}
-use Rattle.table_find.specs.declared.Found.{Found}
-use Rattle.table_find.specs.declared.Found.TheVariants.{At, Nothing}
+use Rattle.std.specs.Prelude.{Option, Some, None}
 use Rattle.table_find.proofs.Laws.{found_is, found_low, found_none, named_slot}
 use Rattle.request.specs.Value.{value_at, Readable}
 use Rattle.request.specs.Spelled.{spelled_wanted, WantedFits, WantedIn}
@@ -37,7 +36,7 @@ use Rattle.issue.proofs.Laws.{none_given, some_given}
 use Rattle.proxy.specs.Asking.{Live, Values, proxy_under, proxy_for}
 
 -- a live grant's slot, and its session's
-pub grant_live : (b pgt : List ℕ) (k : ℕ) {f : Found} → Lawful b → f ≡ found_at (slot_named a_grant pgt (decode_table b)) → f ≡ At k → Live k b
+pub grant_live : (b pgt : List ℕ) (k : ℕ) {f : Option ℕ} → Lawful b → f ≡ found_at (slot_named a_grant pgt (decode_table b)) → f ≡ Some k → Live k b
 grant_live b pgt k l e a =
     let t : Table = decode_table b in
     let n : k ≡ slot_named a_grant pgt t = found_is (slot_named a_grant pgt t) e a in
@@ -64,7 +63,7 @@ pub room_known : (t : Table) {x : Bool} → x ≡ room_for 1 t → x ≡ true �
 room_known t e p = sym e ∙ p
 
 -- `find_given`: the text that was read stands at the front of its buffer
-pub grant_found : (q b d e : List ℕ) (p : Value) (n : ℕ) {f : Found} → Wrote d 0 e n (value_at false q p) → f ≡ found_at (slot_named a_grant (take n e) (decode_table b))
+pub grant_found : (q b d e : List ℕ) (p : Value) (n : ℕ) {f : Option ℕ} → Wrote d 0 e n (value_at false q p) → f ≡ found_at (slot_named a_grant (take n e) (decode_table b))
     → f ≡ found_at (slot_named a_grant (value_at false q p) (decode_table b))
 grant_found q b d e p n w x = rw (read_back d e (value_at false q p) n w) at x
 
@@ -74,8 +73,8 @@ offered b register random o q v p t g h e =
     record { fine = g.lawful.fine; short = known-short false 200 q v t (decode_register register) e h.target; drawn = g.drawn; out = g.room }
 
 -- by the grant's text: a target that is not absent is registered just where something was found, and that is the target
-module _ (b o o' q register random : List ℕ) (p t : Value) {r : Outcome} {f : Found} (e : f ≡ found_at (slot_named a_grant (value_at false q p) (decode_table b))) where
-  pub by_slot : (v : List ℕ) {b' : List ℕ} {k : ℕ} → f ≡ At k → Values q p t → v ≡ link_to (value_at false q t) (decode_register register) → Done (proxy_under k v random (decode_table b)) r b' o o'
+module _ (b o o' q register random : List ℕ) (p t : Value) {r : Outcome} {f : Option ℕ} (e : f ≡ found_at (slot_named a_grant (value_at false q p) (decode_table b))) where
+  pub by_slot : (v : List ℕ) {b' : List ℕ} {k : ℕ} → f ≡ Some k → Values q p t → v ≡ link_to (value_at false q t) (decode_register register) → Done (proxy_under k v random (decode_table b)) r b' o o'
       → Done (proxy_for (value_at false q p) (value_at false q t) (bringing register random) (decode_table b)) r b' o o'
   unfolding proxy_for proxy_by proxy_under link_to
   by_slot v {k = k} a h w d =
@@ -94,7 +93,7 @@ module _ (b o o' q register random : List ℕ) (p t : Value) {r : Outcome} {f : 
       go l true m = rw m
       go l false m = refl
 
-  pub no_grant : f ≡ Nothing → Fine b → Said (ProxyFailure BadPgt) r o o' → Done (proxy_for (value_at false q p) (value_at false q t) (bringing register random) (decode_table b)) r b o o'
+  pub no_grant : f ≡ None → Fine b → Said (ProxyFailure BadPgt) r o o' → Done (proxy_for (value_at false q p) (value_at false q t) (bringing register random) (decode_table b)) r b o o'
   unfolding proxy_for proxy_by
   no_grant a h s = rw (eq-eqb (slot_named a_grant (value_at false q p) (decode_table b)) 0 (found_none (slot_named a_grant (value_at false q p) (decode_table b)) e a)) (only_said h s)
 

@@ -14,7 +14,6 @@ ghost use Rattle.proxy.specs.Asking.{proxy_under, proxy_for, Live, Values};
 
 use protocol::Outcome;
 use request::{ProxyQuery, Value};
-use table_find::Found;
 use xml::Code;
 
 // Under the live grant in slot k. An empty target is one that is not registered.
@@ -33,7 +32,7 @@ fn under(table: &mut [u8], k: usize, target: &[u8], random: &[u8], out: &mut [u8
 }
 
 // The live grant that a value names: its text is decoded.
-fn find_given(table: &[u8], q: &[u8], pgt: Value) -> Found
+fn find_given(table: &[u8], q: &[u8], pgt: Value) -> Option<usize>
     requires { (Fine table.now) × (Readable false 64 q.now pgt) }
     ensures { result ≡ found_at (slot_named a_grant (value_at false q.now pgt) (decode_table table.now)) }
 {
@@ -58,11 +57,11 @@ fn ask(
         out.old out.new }
 {
     match find_given(table, q, pgt) {
-        Found::At(k) => {
+        Some(k) => {
             let known = known::service_of(register, q, target, false);
             under(table, k, known, random, out)
         }
-        Found::Nothing => reply::say_proxy_failure(out, Code::BadPgt),
+        None => reply::say_proxy_failure(out, Code::BadPgt),
     }
 }
 

@@ -19,8 +19,7 @@ use Rattle.protocol.specs.Calls.{unless}
 use Rattle.protocol.specs.Visits.{is_visit, visits_in, visits_of, visit_text, visit_unless, visit_refusal, visit_said, VisitRead, visit_read, visit_given, visit_refused, visit_of}
 use Rattle.protocol.proofs.Places.{slots_count}
 use Rattle.protocol.proofs.Held.{slot_in}
-use Rattle.table_find.specs.declared.Found.{Found}
-use Rattle.table_find.specs.declared.Found.TheVariants.{At, Nothing}
+use Rattle.std.specs.Prelude.{Option, Some, None}
 use Rattle.table_find.specs.Searches.{found_at}
 use Rattle.table.proofs.Laws.{at_slot, slots_from}
 use Rattle.table_find.proofs.Laws.{found_some, found_zero, found_is, found_low, found_none}
@@ -42,7 +41,7 @@ module _ (b : List ℕ) (s n left k : ℕ) (l : Seeking b s n left k) where
   abbrev slots : List Rec
   slots = (decode_table b).slots
 
-  pub seek_none : length b / 512 ≤ k → Nothing ≡ found_at (visit_slot s n (decode_table b).slots)
+  pub seek_none : length b / 512 ≤ k → None ≡ found_at (visit_slot s n (decode_table b).slots)
   unfolding visit_from
   seek_none h =
       let d : drop (k - 1) slots ≡ [] = drop_of_length-le slots {i = k - 1} (omega (arith, slots_count b, l.low)) in
@@ -53,7 +52,7 @@ module _ (b : List ℕ) (s n left k : ℕ) (l : Seeking b s n left k) where
     here : drop (k - 1) slots ≡ rec_at k slots ∷ drop (k + 1 - 1) slots
     here = slots_from slots k l.low (omega (arith, slots_count b))
 
-    pub seek_found : r ≡ true → left ≡ 0 → At k ≡ found_at (visit_slot s n (decode_table b).slots)
+    pub seek_found : r ≡ true → left ≡ 0 → Some k ≡ found_at (visit_slot s n (decode_table b).slots)
     unfolding visit_from
     seek_found t z =
         let v : is_visit s (rec_at k slots) ≡ true = sym e ∙ t in
@@ -118,14 +117,14 @@ visit_none s (r ∷ rs) k n h = step (is_visit s r) n (visit_none s rs (k + 1)) 
     step true zero later h = absurd (omega arith)
     step true (suc n) later h = rw (sub-one, ne_eqb (suc n) 0 (λ e. omega arith)) (later n (omega arith))
 
-module _ (b : List ℕ) (s n : ℕ) {f : Found} (e : f ≡ found_at (visit_slot s n (decode_table b).slots)) where
+module _ (b : List ℕ) (s n : ℕ) {f : Option ℕ} (e : f ≡ found_at (visit_slot s n (decode_table b).slots)) where
   abbrev recs : List Rec
   recs = (decode_table b).slots
 
   abbrev visits : List Rec
   visits = visits_in s recs
 
-  module _ {k : ℕ} (g : f ≡ At k) where
+  module _ {k : ℕ} (g : f ≡ Some k) where
     is_slot : k ≡ visit_slot s n recs
     is_slot = found_is (visit_slot s n recs) e g
 
@@ -152,7 +151,7 @@ module _ (b : List ℕ) (s n : ℕ) {f : Found} (e : f ≡ found_at (visit_slot 
         let y : m ≡ length (visit_text (rec_at k recs) clock random) = w.moves ∙ zero-add _ in
         rw (lt-ltb n (length visits) below, sym visit_is, y, w.holds)
 
-  pub told_none : f ≡ Nothing → (random o : List ℕ) (clock : ℕ) → visit_read (record { refusal = 9; length = 0 }) b o ≡ told (visits_in s (decode_table b).slots) n clock random b o
+  pub told_none : f ≡ None → (random o : List ℕ) (clock : ℕ) → visit_read (record { refusal = 9; length = 0 }) b o ≡ told (visits_in s (decode_table b).slots) n clock random b o
   unfolding told
   told_none g random o clock = rw (le-ltb n (length visits) (beyond (ltb n (length visits)) refl))
     where
@@ -161,9 +160,9 @@ module _ (b : List ℕ) (s n : ℕ) {f : Found} (e : f ≡ found_at (visit_slot 
       beyond false q = ltb-false n (length visits) q
 
 -- of the session that a cookie names
-module _ (b cookie : List ℕ) (n time : ℕ) (random o : List ℕ) {clock : ℕ} {f : Found} (c : clock ≡ max (decode_table b).clock time)
+module _ (b cookie : List ℕ) (n time : ℕ) (random o : List ℕ) {clock : ℕ} {f : Option ℕ} (c : clock ≡ max (decode_table b).clock time)
     (e : f ≡ found_at (slot_where (is_named clock 2 cookie) (decode_table b).slots)) where
-  pub told_session : {s : ℕ} {r : VisitRead} → f ≡ At s → r ≡ told (visits_in s (decode_table b).slots) n clock random b o
+  pub told_session : {s : ℕ} {r : VisitRead} → f ≡ Some s → r ≡ told (visits_in s (decode_table b).slots) n clock random b o
       → r ≡ told (visits_of cookie time (decode_table b)) n (max (decode_table b).clock time) random b o
   unfolding visits_of tick slot_named
   told_session {s} g q =
@@ -171,7 +170,7 @@ module _ (b cookie : List ℕ) (n time : ℕ) (random o : List ℕ) {clock : ℕ
       let z : eqb s 0 ≡ false = ne_eqb s 0 (λ y. omega (arith, found_low (slot_where (is_named clock 2 cookie) (decode_table b).slots) e g)) in
       rw (sym c, sym i, z) q
 
-  pub told_nobody : f ≡ Nothing → visit_read (record { refusal = 9; length = 0 }) b o ≡ told (visits_of cookie time (decode_table b)) n (max (decode_table b).clock time) random b o
+  pub told_nobody : f ≡ None → visit_read (record { refusal = 9; length = 0 }) b o ≡ told (visits_of cookie time (decode_table b)) n (max (decode_table b).clock time) random b o
   unfolding told visits_of tick slot_named
   told_nobody g = let i = found_none (slot_where (is_named clock 2 cookie) (decode_table b).slots) e g in rw (sym c, i, le-ltb n 0 (omega arith))
 

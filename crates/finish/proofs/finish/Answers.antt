@@ -6,8 +6,8 @@ use Rattle.finish.proofs.finish.Goals as goal
 pub settle-requires : goal.settle-requires
 settle-requires c = search (rules, found_waits)
 
-pub returns-in-At : goal.returns-in-At
-returns-in-At c = search (rules, finish_at_lem)
+pub returns-in-Some : goal.returns-in-Some
+returns-in-Some c = search (rules, finish_at_lem)
 
-pub returns-in-Nothing : goal.returns-in-Nothing
-returns-in-Nothing c = search (rules, finish_none)
+pub returns-in-None : goal.returns-in-None
+returns-in-None c = search (rules, finish_none)

@@ -8,8 +8,8 @@ returns-then-unknown c = search way_unknown
 pub returns-then-renew : goal.returns-then-renew
 returns-then-renew c = search way_renew
 
-pub returns-in-At : goal.returns-in-At
-returns-in-At c = search way_signed
+pub returns-in-Some : goal.returns-in-Some
+returns-in-Some c = search way_signed
 
 pub returns-then-service-eq0 : goal.returns-then-service-eq0
 returns-then-service-eq0 c = search way_none

@@ -7,8 +7,8 @@ use Rattle.logout.proofs.end_named.Goals as goal
 pub end_session-requires : goal.end_session-requires
 end_session-requires c = (search rules, search named_slot)
 
-pub returns-in-At : goal.returns-in-At
-returns-in-At c = search ended
+pub returns-in-Some : goal.returns-in-Some
+returns-in-Some c = search ended
 
-pub returns-in-Nothing : goal.returns-in-Nothing
-returns-in-Nothing c = search nobody
+pub returns-in-None : goal.returns-in-None
+returns-in-None c = search nobody

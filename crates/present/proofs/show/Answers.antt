@@ -6,8 +6,8 @@ use Rattle.present.proofs.show.Goals as goal
 pub spend-requires : goal.spend-requires
 spend-requires c = search (rules, found_spendable)
 
-pub returns-in-At : goal.returns-in-At
-returns-in-At c = search (rules, presented_at)
+pub returns-in-Some : goal.returns-in-Some
+returns-in-Some c = search (rules, presented_at)
 
-pub returns-in-Nothing : goal.returns-in-Nothing
-returns-in-Nothing c = search (rules, presented_none)
+pub returns-in-None : goal.returns-in-None
+returns-in-None c = search (rules, presented_none)

@@ -5,8 +5,8 @@ use Rattle.proxy.proofs.ask.Goals as goal
 pub under-requires : goal.under-requires
 under-requires c = (search offered, search grant_live)
 
-pub returns-in-At : goal.returns-in-At
-returns-in-At c = search by_slot
+pub returns-in-Some : goal.returns-in-Some
+returns-in-Some c = search by_slot
 
-pub returns-in-Nothing : goal.returns-in-Nothing
-returns-in-Nothing c = search no_grant
+pub returns-in-None : goal.returns-in-None
+returns-in-None c = search no_grant
