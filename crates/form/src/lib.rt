@@ -2,9 +2,9 @@
 // judged before either buffer is written.
 #![tactic(auto)]
 
-ghost use Rattle.std.specs.Prelude.{◌≡◌, true, length};
+ghost use Rattle.std.specs.Prelude.{◌≡◌, ◌≤◌, length};
 ghost use Rattle.protocol.specs.Calls.{form_read, form_given, form_of};
-ghost use Rattle.request.specs.Value.{value_at, Readable};
+ghost use Rattle.request.specs.Value.{text_of};
 ghost use Rattle.form.specs.Refused.{refused_form};
 
 use protocol::Form;
@@ -25,23 +25,21 @@ fn refused(number: u32) -> Form
 
 // The inner work, once the body is read.
 fn read_credentials(
-    body: &[u8],
-    user: Value,
-    word: Value,
+    user: Value<'_>,
+    word: Value<'_>,
     username: &mut [u8],
     password: &mut [u8],
 ) -> Form
-    requires username_readable { Readable true (length username.old) body.now user }
-    requires password_readable { Readable true (length password.old) body.now word }
-    ensures { form_read result username.new password.new
-        ≡ form_given (value_at true body.now user) (value_at true body.now word) username.old password.old }
+    requires username_fits { length (text_of user) ≤ length username.old }
+    requires password_fits { length (text_of word) ≤ length password.old }
+    ensures { form_read result username.new password.new ≡ form_given (text_of user.entry) (text_of word.entry) username.old password.old }
 {
-    let n = request::read(body, user, true, username);
-    let m = request::read(body, word, true, password);
+    let username_length = user.read(username);
+    let password_length = word.read(password);
     Form {
         refusal: 0,
-        username_length: n,
-        password_length: m,
+        username_length,
+        password_length,
     }
 }
 
@@ -57,21 +55,18 @@ pub fn read_form(body: &[u8], username: &mut [u8], password: &mut [u8]) -> Form
     if BODY < body.len() {
         return refused(5);
     }
-    let b = request::login_body(body);
-    let LoginBody::Given {
-        service: _,
-        username: user,
-        password: word,
-        lt: _,
-    } = b
+    let Some(
+        LoginBody {
+            username: user,
+            password: word,
+            ..
+        },
+    ) = request::login_body(body)
     else {
         return refused(7);
     };
-    if user.length == 0 {
+    if user.is_absent() | word.is_absent() {
         return refused(8);
     }
-    if word.length == 0 {
-        return refused(8);
-    }
-    read_credentials(body, user, word, username, password)
+    read_credentials(user, word, username, password)
 }

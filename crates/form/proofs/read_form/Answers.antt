@@ -1,6 +1,6 @@
 -- Each refusal in its turn, then what was read. Assumes nothing.
 use borrow.Author.Rules.{rules}
-use Rattle.form.proofs.Laws.{short_username, short_password, long_body, bad_body, no_username, no_password, username_fits, password_fits, form_read_lem}
+use Rattle.form.proofs.Laws.{short_username, short_password, long_body, bad_body, absent, name_fits, word_fits, form_read_lem}
 use Rattle.form.proofs.read_form.Goals as goal
 
 pub returns-then-username-lt-SHORT : goal.returns-then-username-lt-SHORT
@@ -15,17 +15,14 @@ returns-then-body-gt-BODY c = search (rules, long_body)
 pub returns-in_default : goal.returns-in_default
 returns-in_default c = search (rules, bad_body)
 
-pub returns-then-user-eq0 : goal.returns-then-user-eq0
-returns-then-user-eq0 c = search (rules, no_username)
+pub returns-then-is_absent : goal.returns-then-is_absent
+returns-then-is_absent c = search (rules, absent)
 
-pub returns-then-word-eq0 : goal.returns-then-word-eq0
-returns-then-word-eq0 c = search (rules, no_password)
+pub read_credentials-requires-clause-username_fits : goal.read_credentials-requires-clause-username_fits
+read_credentials-requires-clause-username_fits c = search (rules, name_fits)
 
-pub read_credentials-requires-clause-username_readable : goal.read_credentials-requires-clause-username_readable
-read_credentials-requires-clause-username_readable c = search (rules, username_fits, password_fits)
-
-pub read_credentials-requires-clause-password_readable : goal.read_credentials-requires-clause-password_readable
-read_credentials-requires-clause-password_readable c = search (rules, username_fits, password_fits)
+pub read_credentials-requires-clause-password_fits : goal.read_credentials-requires-clause-password_fits
+read_credentials-requires-clause-password_fits c = search (rules, word_fits)
 
 pub returns : goal.returns
 returns c = search (rules, form_read_lem)
