@@ -2,14 +2,15 @@
 use mathlib.Core.Path.{◌≡◌, refl, sym, ap, ◌∙◌}
 use mathlib.Core.Bool.{Bool, true, false, ◌&&◌, not, ◌||◌, and-true}
 use mathlib.Core.List.{List, [], ◌∷◌}
-use Prim.Native.Nat.{ℕ, suc, ◌+◌, ◌-◌, ◌*◌, ◌<◌, ◌≤◌}
+use Prim.Native.Nat.{ℕ, zero, suc, ◌+◌, ◌-◌, ◌*◌, ◌<◌, ◌≤◌}
 use native.Mathlib.Numerals.{add-one}
 use native.Mathlib.Omega.{arith}
 use borrow.Author.Tests.{eq-eqb, ne_eqb}
 use lib.Dec.{eqb, leb, ltb}
 use lib.ListN.{length, drop_of_length-le}
 use lib.Seq.{drop-cons}
-use Rattle.protocol.specs.Bytes.{if, part}
+use Rattle.std.specs.List.{list_any, list_all, range_with_len}
+use Rattle.protocol.specs.Bytes.{part}
 use Rattle.protocol.specs.Records.{Rec, free_rec}
 use Rattle.protocol.specs.Table.{decode_table, rec_at, serial_taken, session_right, parent_right, grant_right}
 use Rattle.protocol.proofs.Laws.{and-false}
@@ -34,16 +35,6 @@ module _ (r : Rec) (serial : ℕ) {s : ℕ} (e : s ≡ r.serial) where
   pub serial_own : {k : ℕ} → s ≡ serial → k ≡ r.kind → not (eqb k 0) ≡ has_serial serial r
   serial_own {k} z f = rw (f, eq-eqb r.serial serial (sym e ∙ z)) (sym (and-true (not (eqb r.kind 0))))
 
--- a record beside what it names
-pub session_right_lem : (f s : Fields) {l r : Bool} → l ≡ if (eqb f.kind 6 || eqb f.kind 7) (eqb f.expiry s.expiry) (leb f.expiry s.expiry)
-    → r ≡ if (ltb f.kind 3) (eqb f.session 0) (eqb s.kind 2 && l) → r ≡ session_test f s
-session_right_lem f s a b = b ∙ rw a
-
-pub parent_right_lem : (f p : Fields) {g q v r : Bool} → g ≡ if (eqb f.depth 1) (eqb f.parent 0) (eqb p.kind 6 && eqb p.session f.session && eqb f.depth (p.depth + 1))
-    → q ≡ if (eqb f.kind 4) (eqb p.kind 6 && eqb p.session f.session) g → v ≡ if (eqb f.kind 3 || eqb f.kind 7) (eqb f.parent f.session) q → r ≡ if (ltb f.kind 3) (eqb f.parent 0) v
-    → r ≡ parent_test f p
-parent_right_lem f p a b c d = d ∙ rw (c, b, a)
-
 -- the records that it names
 pub session_is : (slots : List Rec) (r : Rec) → session_right slots r ≡ session_test (fields_of r) (fields_of (rec_at r.session slots))
 unfolding session_right
@@ -61,56 +52,20 @@ module _ (b : List ℕ) (n : ℕ) (h : length b ≡ 512 * n) where
   from_end : (k : ℕ) → 1 ≤ k → n ≤ k → from_slot k b ≡ []
   from_end k l g = drop_of_length-le (free_rec ∷ (decode_table b).slots) {i = k} (omega (arith, slots_count b))
 
--- no record from slot k up to j has the serial
-pub record Untaken (b : List ℕ) (n k s j : ℕ) : Type 0 where
-  pub low : 1 ≤ j
-  pub rest : serial_taken s (from_slot j b) ≡ serial_taken s (from_slot (k + 1) b)
+  -- some slot from k on has the serial
+  taken_from : (s k m : ℕ) → 1 ≤ k → n - k ≡ m → list_any (λ j. has_serial s (said_at j b)) (range_with_len k m) ≡ serial_taken s (from_slot k b)
+  unfolding serial_taken
+  taken_from s k zero l e = sym (ap (serial_taken s) (from_end k l (omega arith)))
+  taken_from s k (suc m) l e = rw (taken_from s (k + 1) m (omega arith) (omega arith)) (sym (ap (serial_taken s) (from_step k (omega arith))))
 
-pub untaken_start : (b : List ℕ) (n k s : ℕ) → Untaken b n k s (k + 1)
-untaken_start b n k s = record { low = omega arith; rest = refl }
+  pub taken_behind : (k s : ℕ) → k < n → list_any (λ j. has_serial s (said_at j b)) (range_with_len (k + 1) (n - (k + 1))) ≡ serial_taken s (from_slot (k + 1) b)
+  taken_behind k s g = taken_from s (k + 1) (n - (k + 1)) (omega arith) refl
 
-pub untaken_next : (b : List ℕ) (n k s j : ℕ) {r : Bool} → length b ≡ 512 * n → Untaken b n k s j → j < n → r ≡ has_serial s (said_at j b) → r ≡ false → Untaken b n k s (j + 1)
-unfolding serial_taken
-untaken_next b n k s j h u g e z =
-    let q : has_serial s (said_at j b) ≡ false = sym e ∙ z in
-    record { low = omega arith; rest = sym (ap (serial_taken s) (from_step b n h j g) ∙ rw q) ∙ u.rest }
-
-pub untaken_not : (b : List ℕ) (n k s j : ℕ) {r : Bool} → length b ≡ 512 * n → Untaken b n k s j → j < n → r ≡ has_serial s (said_at j b) → r ≡ true → true ≡ serial_taken s (from_slot (k + 1) b)
-unfolding serial_taken
-untaken_not b n k s j h u g e z =
-    let q : has_serial s (said_at j b) ≡ true = sym e ∙ z in
-    sym (ap (serial_taken s) (from_step b n h j g) ∙ rw q) ∙ u.rest
-
-pub untaken_all : (b : List ℕ) (n k s j : ℕ) → length b ≡ 512 * n → Untaken b n k s j → n ≤ j → false ≡ serial_taken s (from_slot (k + 1) b)
-unfolding serial_taken
-untaken_all b n k s j h u g = sym (ap (serial_taken s) (from_end b n h j u.low g)) ∙ u.rest
-
--- slots before k passed
-pub record Passed (test : ℕ → Bool) (n k : ℕ) : Type 0 where
-  pub low : 1 ≤ k
-  pub rest : all_from test k (n - k) ≡ all_from test 1 (n - 1)
-
-pub passed_start : (test : ℕ → Bool) (n : ℕ) → Passed test n 1
-passed_start test n = record { low = omega arith; rest = refl }
-
-module _ (test : ℕ → Bool) (n k : ℕ) where
-  passed_step : k < n → all_from test k (n - k) ≡ test k && all_from test (k + 1) (n - (k + 1))
-  unfolding all_from
-  passed_step h = let e : n - k ≡ suc (n - (k + 1)) = omega arith in rw e
-
-  pub passed_next : {r : Bool} → Passed test n k → k < n → r ≡ test k → r ≡ true → Passed test n (k + 1)
-  passed_next p h e z =
-      let q : test k ≡ true = sym e ∙ z in
-      record { low = omega arith; rest = sym (passed_step h ∙ rw q) ∙ p.rest }
-
-  pub passed_not : {r : Bool} → Passed test n k → k < n → r ≡ test k → r ≡ false → false ≡ all_from test 1 (n - 1)
-  passed_not p h e z =
-      let q : test k ≡ false = sym e ∙ z in
-      sym (passed_step h ∙ rw q) ∙ p.rest
-
-  pub passed_all : Passed test n k → n ≤ k → true ≡ all_from test 1 (n - 1)
-  unfolding all_from
-  passed_all p h = let e : n - k ≡ 0 = omega arith in rw e at p.rest
+-- every slot of some, as std says it
+pub all_listed : (test : ℕ → Bool) (k m : ℕ) → list_all test (range_with_len k m) ≡ all_from test k m
+unfolding all_from
+all_listed test k zero = refl
+all_listed test k (suc m) = rw (all_listed test (k + 1) m)
 
 -- a serial that no later record has
 pub alone_free : (b : List ℕ) (k : ℕ) {f : Fields} → f ≡ fields_of (said_at k b) → f.kind ≡ 0 → true ≡ alone_at k b

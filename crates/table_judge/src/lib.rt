@@ -14,35 +14,35 @@ use table::Fields;
 fn session_right(f: Fields, s: Fields) -> bool
     ensures { result ≡ session_test f s }
 {
-    let lasts = text::pick(
-        (f.kind == ticket::Grant::KIND) | (f.kind == ticket::Visit::KIND),
-        f.expiry == s.expiry,
-        f.expiry <= s.expiry,
-    );
-    text::pick(
-        f.kind < ticket::Service::KIND,
-        f.session == 0,
-        (s.kind == ticket::Session::KIND) & lasts,
-    )
+    if f.kind < ticket::Service::KIND {
+        return f.session == 0;
+    }
+    let lasts = if (f.kind == ticket::Grant::KIND) | (f.kind == ticket::Visit::KIND) {
+        f.expiry == s.expiry
+    } else {
+        f.expiry <= s.expiry
+    };
+    (s.kind == ticket::Session::KIND) & lasts
 }
 
 // A record and the parent that it names.
 fn parent_right(f: Fields, p: Fields) -> bool
     ensures { result ≡ parent_test f p }
 {
+    if f.kind < ticket::Service::KIND {
+        return f.parent == 0;
+    }
+    if (f.kind == ticket::Service::KIND) | (f.kind == ticket::Visit::KIND) {
+        return f.parent == f.session;
+    }
     let under = (p.kind == ticket::Grant::KIND) & (p.session == f.session);
-    let deeper = f.depth as u16 == p.depth as u16 + 1;
-    let grant = text::pick(f.depth == 1, f.parent == 0, under & deeper);
-    let proxied = text::pick(f.kind == ticket::Proxy::KIND, under, grant);
-    text::pick(
-        f.kind < ticket::Service::KIND,
-        f.parent == 0,
-        text::pick(
-            (f.kind == ticket::Service::KIND) | (f.kind == ticket::Visit::KIND),
-            f.parent == f.session,
-            proxied,
-        ),
-    )
+    if f.kind == ticket::Proxy::KIND {
+        return under;
+    }
+    if f.depth == 1 {
+        return f.parent == 0;
+    }
+    under & (f.depth as u16 == p.depth as u16 + 1)
 }
 
 // Does the record in a slot, unless it is free, have this serial? Most have another, so that is asked first.
@@ -61,14 +61,7 @@ fn serial_taken(table: &[u8], n: usize, k: usize, serial: u32) -> bool
     requires { (length table.now ≡ 512 * n) × (k < n) }
     ensures { result ≡ serial_taken serial (from_slot (k + 1) table.now) }
 {
-    let mut j = k + 1;
-    while j < n {
-        if has_serial(table, j, serial) {
-            return true;
-        }
-        j += 1;
-    }
-    false
+    (k + 1..n).any(|j| has_serial(table, j, serial))
 }
 
 // Is the serial of the record in slot k, unless it is free, its own among those behind it?
@@ -114,15 +107,7 @@ fn slots_right(table: &[u8], n: usize, clock: u64, next: u32) -> bool
     requires { (length table.now ≡ 512 * n) × (clock ≤ last_time) × (1 ≤ n) }
     ensures { result ≡ all_from (slot_right clock next table.now) 1 (n - 1) }
 {
-    let mut k = 1;
-    while k < n {
-        if slot_right(table, n, clock, next, k) {
-            k += 1;
-        } else {
-            return false;
-        }
-    }
-    true
+    (1..n).all(|k| slot_right(table, n, clock, next, k))
 }
 
 // Is the length of a table right: a multiple of 512, 9 to 128 blocks?

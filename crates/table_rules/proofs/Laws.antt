@@ -1,6 +1,6 @@
 -- What the code computes of a block is what protocol says of it. Assumes nothing.
 use mathlib.Core.Path.{◌≡◌, refl, sym, ap, ◌∙◌}
-use mathlib.Core.Bool.{Bool, true, false, ◌&&◌}
+use mathlib.Core.Bool.{Bool, true, false, ◌&&◌, ◌||◌}
 use mathlib.Core.List.{List, [], ◌∷◌}
 use Prim.Native.Nat.{ℕ, ◌+◌, ◌-◌, ◌<◌, ◌≤◌}
 use native.Mathlib.Omega.{arith}
@@ -138,21 +138,30 @@ limits_short f n e g =
     let m : n ≤ text_most k = leb-true n (text_most k) t.1 in
     omega (arith, text_most_lem k)
 
-pub serial_right_lem : (next serial : ℕ) {p : Bool} → p ≡ if (eqb next 0) true (ltb serial next) → leb 1 serial && p ≡ serial_right next serial
+-- either test, as a choice
+either : (c x : Bool) → c || x ≡ if c true x
+either true x = refl
+either false x = refl
+
+pub serial_right_lem : (next serial : ℕ) → leb 1 serial && (eqb next 0 || ltb serial next) ≡ serial_right next serial
 unfolding serial_right
-serial_right_lem next serial e = rw e
+serial_right_lem next serial = rw (either (eqb next 0) (ltb serial next))
 
-pub life_right_lem : (f : Fields) (clock next : ℕ) {m : ℕ} {s r : Bool} → m ≡ lifetime f.kind → s ≡ serial_right next f.serial
-    → r ≡ if (eqb f.kind 0) (eqb f.serial 0 && eqb f.expiry 0) (s && leb f.expiry (clock + m)) → r ≡ life_right clock next f
-unfolding life_right
-life_right_lem f clock next a b e = e ∙ rw (a, b)
+module _ (f : Fields) (clock next : ℕ) where
+  pub life_free : f.kind ≡ 0 → eqb f.serial 0 && eqb f.expiry 0 ≡ life_right clock next f
+  unfolding life_right
+  life_free z = rw (eq-eqb f.kind 0 z)
 
-pub secrets_right_lem : (b : List ℕ) (kind : ℕ) {m : ℕ} {r i p : Bool} → m ≡ secret_length kind → r ≡ all_within 0 0 (part (24 + m) (40 - (24 + m)) b) → i ≡ all_within 0 0 (part 256 16 b)
-    → p ≡ if (eqb kind 5) true i → r && p ≡ secrets_right kind b
+  pub life_held : {m : ℕ} {s : Bool} → (f.kind ≡ 0 → ⊥) → s ≡ serial_right next f.serial → m ≡ lifetime f.kind → s && leb f.expiry (clock + m) ≡ life_right clock next f
+  unfolding life_right
+  life_held z a b = rw (ne_eqb f.kind 0 z, a, b)
+
+pub secrets_right_lem : (b : List ℕ) (kind : ℕ) {m : ℕ} {r i : Bool} → m ≡ secret_length kind → r ≡ all_within 0 0 (part (24 + m) (40 - (24 + m)) b) → i ≡ all_within 0 0 (part 256 16 b)
+    → r && (eqb kind 5 || i) ≡ secrets_right kind b
 unfolding secrets_right
-secrets_right_lem b kind {m} a x y z =
+secrets_right_lem b kind {m} {r} {i} a x y =
     let e : 40 - (24 + m) ≡ 16 - m = omega arith in
-    rw (z, y, x, e, a)
+    rw (either (eqb kind 5) i, y, x, e, a)
 
 module _ (kind : ℕ) (s : List ℕ) {r : Bool} where
   pub letters_name : kind ≡ 2 → r ≡ name_right s → r ≡ letters_right kind s

@@ -32,7 +32,7 @@ fn limits_right(f: Fields, length: u16) -> bool
 fn serial_right(next: u32, serial: u32) -> bool
     ensures { result ≡ serial_right next serial }
 {
-    (1 <= serial) & text::pick(next == 0, true, serial < next)
+    (1 <= serial) & ((next == 0) | (serial < next))
 }
 
 // A free record has neither serial nor expiry, another's are right.
@@ -40,23 +40,21 @@ fn life_right(f: Fields, clock: u64, next: u32) -> bool
     requires { clock ≤ last_time }
     ensures { result ≡ life_right clock next f }
 {
+    if f.kind == ticket::FREE {
+        return (f.serial == 0) & (f.expiry == 0);
+    }
     let held = f.expiry <= clock + ticket::lifetime_of(f.kind);
-    text::pick(
-        f.kind == ticket::FREE,
-        (f.serial == 0) & (f.expiry == 0),
-        serial_right(next, f.serial) & held,
-    )
+    serial_right(next, f.serial) & held
 }
 
 // A session was made at T at the latest; other kinds have no sign-on time.
 fn since_right(f: Fields, clock: u64) -> bool
     ensures { result ≡ since_test clock f }
 {
-    text::pick(
-        f.kind == ticket::Session::KIND,
-        f.since <= clock,
-        f.since == 0,
-    )
+    if f.kind == ticket::Session::KIND {
+        return f.since <= clock;
+    }
+    f.since == 0
 }
 
 // The rest of a short secret is zero, and so is the IOU secret of any kind but a waiting grant.
@@ -67,7 +65,7 @@ fn secrets_right(block: &[u8], kind: u8) -> bool
     let from = table::AT_SECRET + ticket::secret_length(kind);
     let rest = block::all_within(&block[from..table::AT_LENGTH], 0, 0);
     let iou = block::all_within(&block[table::AT_IOU..table::AT_SINCE], 0, 0);
-    rest & text::pick(kind == ticket::Waiting::KIND, true, iou)
+    rest & ((kind == ticket::Waiting::KIND) | iou)
 }
 
 // A session's text is a name; other texts have bytes 32 to 126.

@@ -1,18 +1,13 @@
--- What is left to search is as good as the whole.
-use Rattle.table_judge.proofs.Slots.{slot_in, untaken_start, untaken_next, untaken_not, untaken_all}
+-- Some slot behind k passes the test.
+use Rattle.std.proofs.Common.{refl, ◌∙◌, ◌+◌, arith, rules, tests}
+use Rattle.std.proofs.lemmas.Iterator.{YieldsList-from_range}
+use Rattle.std.proofs.lemmas.Iterator.Search.{any_from_yields_List}
+use Rattle.protocol.specs.Held.{said_at}
+use Rattle.table_judge.specs.Tests.{has_serial}
+use Rattle.table_judge.proofs.Slots.{taken_behind}
 use Rattle.table_judge.proofs.serial_taken.Goals as goal
 
-pub loop-j-init : goal.loop-j-init
-loop-j-init c = search untaken_start
-
-pub has_serial-requires : goal.has_serial-requires
-has_serial-requires c = search slot_in
-
-pub returns-then-has_serial : goal.returns-then-has_serial
-returns-then-has_serial c = search untaken_not
-
-pub loop-j-preserved : goal.loop-j-preserved
-loop-j-preserved c = search untaken_next
-
 pub returns : goal.returns
-returns c = search untaken_all
+returns c =
+    any_from_yields_List (λ j. has_serial c.args.serial (said_at j c.args.table.now)) _ _ _ c.any.ensures.ran (YieldsList-from_range (c.args.k + 1) c.args.n _ refl (omega arith)) (λ x b q k. search (rules, tests))
+    ∙ taken_behind c.args.table.now c.args.n c.requires.0 c.args.k c.args.serial c.requires.1

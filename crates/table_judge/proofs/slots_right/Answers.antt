@@ -1,15 +1,12 @@
--- The slots before k passed.
-use Rattle.table_judge.proofs.Slots.{passed_start, passed_next, passed_not, passed_all}
+-- Every slot passes the test.
+use Rattle.std.proofs.Common.{refl, ◌∙◌, ◌-◌, arith, rules, tests}
+use Rattle.std.proofs.lemmas.Iterator.{YieldsList-from_range}
+use Rattle.std.proofs.lemmas.Iterator.Search.{all_from_yields_List}
+use Rattle.table_judge.specs.Tests.{slot_right}
+use Rattle.table_judge.proofs.Slots.{all_listed}
 use Rattle.table_judge.proofs.slots_right.Goals as goal
 
-pub loop-k-init : goal.loop-k-init
-loop-k-init c = search passed_start
-
-pub loop-k-preserved : goal.loop-k-preserved
-loop-k-preserved c = search passed_next
-
-pub returns-else-slot_right : goal.returns-else-slot_right
-returns-else-slot_right c = search passed_not
-
 pub returns : goal.returns
-returns c = search passed_all
+returns c =
+    all_from_yields_List (slot_right c.args.clock c.args.next c.args.table.now) _ _ _ c.all.ensures.ran (YieldsList-from_range 1 c.args.n _ refl (omega arith)) (λ x b q k. search (rules, tests))
+    ∙ all_listed (slot_right c.args.clock c.args.next c.args.table.now) 1 (c.args.n - 1)
