@@ -10,27 +10,25 @@ ghost use Rattle.protocol.specs.Held.{Fine, Lent, Did};
 ghost use Rattle.protocol.specs.Calls.{brought_by};
 ghost use Rattle.request.specs.Value.{value_at, Readable};
 ghost use Rattle.session.specs.Signing.{Signing};
-ghost use Rattle.login_post.specs.Given.{Spent, Supplied, judged};
+ghost use Rattle.login_post.specs.Given.{Spent, Supplied, spent_slot, judged};
 
 use protocol::{Admission, Outcome};
 use request::{LoginBody, Value};
 
-// The live login ticket of this text is removed; its slot is answered, 0 for none.
-fn spend(table: &mut [u8], lt: &[u8]) -> usize
+// The live login ticket of this text is removed; the answer is whether there was one.
+fn spend(table: &mut [u8], lt: &[u8]) -> bool
     requires { Fine table.old }
     ensures { Spent lt.now table.old table.new result }
 {
-    match table_find::find_named(table, ticket::Login::KIND, lt) {
-        Some(k) => {
-            table::free_record(table, k);
-            k
-        }
-        None => 0,
-    }
+    let Some(k) = table_find::find_named(table, ticket::Login::KIND, lt) else {
+        return false;
+    };
+    table::free_record(table, k);
+    true
 }
 
 // The same of the ticket that a body brings.
-fn spend_given(table: &mut [u8], body: &[u8], lt: Value) -> usize
+fn spend_given(table: &mut [u8], body: &[u8], lt: Value) -> bool
     requires { (Fine table.old) × (Readable true 64 body.now lt) }
     ensures { Spent (value_at true body.now lt) table.old table.new result }
 {
@@ -39,14 +37,14 @@ fn spend_given(table: &mut [u8], body: &[u8], lt: Value) -> usize
     spend(table, &for_lt[..n])
 }
 
-// The service may be unknown; k is the slot of the spent login ticket, 0 for none; username or password may be absent.
-fn admission_of(unknown: bool, k: usize, absent: bool, verdict: bool) -> Admission
-    ensures { result ≡ admission_of unknown k absent verdict }
+// The service may be unknown; a login ticket was spent or there was none; username or password may be absent.
+fn admission_of(unknown: bool, spent: bool, absent: bool, verdict: bool) -> Admission
+    ensures { result ≡ admission_of unknown (spent_slot spent) absent verdict }
 {
     if unknown {
         return Admission::Unknown;
     }
-    if (k == 0) | absent | !verdict {
+    if !spent | absent | !verdict {
         return Admission::Again;
     }
     Admission::Accepted
@@ -56,7 +54,7 @@ fn admission_of(unknown: bool, k: usize, absent: bool, verdict: bool) -> Admissi
 fn enter(
     table: &mut [u8],
     unknown: bool,
-    k: usize,
+    spent: bool,
     body: &[u8],
     service: &[u8],
     username: Value,
@@ -68,11 +66,11 @@ fn enter(
     cookie_out: &mut [u8],
 ) -> Outcome
     requires { Signing table.old body.now username service.now random.now out.old cookie_out.old }
-    ensures { Did (entered (admission_of unknown k absent verdict) (value_at true body.now username) service.now
+    ensures { Did (entered (admission_of unknown (spent_slot spent) absent verdict) (value_at true body.now username) service.now
         (brought_by [] cookie.now random.now verdict) (decode_table table.old))
         result table.new out.old out.new cookie_out.old cookie_out.new }
 {
-    match admission_of(unknown, k, absent, verdict) {
+    match admission_of(unknown, spent, absent, verdict) {
         Admission::Unknown => reply::say_page(out, 403),
         Admission::Again => issue::form(table, 401, service, random, out),
         Admission::Accepted => {
@@ -87,7 +85,7 @@ fn enter(
 fn enter_given(
     table: &mut [u8],
     register: &[u8],
-    k: usize,
+    spent: bool,
     body: &[u8],
     service: Value,
     username: Value,
@@ -100,7 +98,7 @@ fn enter_given(
 ) -> Outcome
     requires supplied { Supplied table.old random.now out.old cookie_out.old }
     requires readable { (Readable true 200 body.now service) × (Readable true 64 body.now username) }
-    ensures { Did (judged k (value_at true body.now service) (value_at true body.now username) absent
+    ensures { Did (judged spent (value_at true body.now service) (value_at true body.now username) absent
         (brought_by register.now cookie.now random.now verdict) (decode_table table.old))
         result table.new out.old out.new cookie_out.old cookie_out.new }
 {
@@ -108,7 +106,7 @@ fn enter_given(
     enter(
         table,
         known::is_unknown(service, known),
-        k,
+        spent,
         body,
         known,
         username,
@@ -145,11 +143,11 @@ pub fn post(
             password,
             lt,
         } => {
-            let k = spend_given(table, body, lt);
+            let spent = spend_given(table, body, lt);
             enter_given(
                 table,
                 register,
-                k,
+                spent,
                 body,
                 service,
                 username,

@@ -5,8 +5,8 @@ use Rattle.login_post.proofs.admission_of.Goals as goal
 pub returns-then-unknown : goal.returns-then-unknown
 returns-then-unknown c = search admission_unknown
 
-pub returns-then-k-absent : goal.returns-then-k-absent
-returns-then-k-absent c = search admission_again
+pub returns-then-spent-absent : goal.returns-then-spent-absent
+returns-then-spent-absent c = search admission_again
 
 pub returns : goal.returns
 returns c = search admission_accepted
