@@ -20,11 +20,9 @@ use Rattle.protocol.proofs.Told.{only_said}
 use Rattle.table_find.specs.Searches.{found_at}
 use Rattle.std.specs.Prelude.{Option, Some, None}
 use Rattle.table_find.proofs.Laws.{found_is, found_low, found_none}
-use Rattle.request.specs.Value.{value_at, Readable}
+use Rattle.request.specs.Value.{text_of, Short}
 use Rattle.request.specs.Spelled.{spelled_leaving, LeavingFits, LeavingIn}
-use Rattle.request.specs.declared.Value.{Value}
-use Rattle.request.specs.declared.LogoutQuery.{LogoutQuery}
-use Rattle.request.specs.declared.LogoutQuery.TheVariants as logout-query
+use Rattle.request.specs.declared.value.Value.{Value}
 use Rattle.logout.specs.Leaving.{leaving as leaves}
 
 -- the session ended, or none was there
@@ -42,26 +40,26 @@ nobody b cookie e a h =
     rw (eq-eqb (slot_named a_session cookie (decode_table b)) 0 s) (holds_self b h)
 
 -- the page said over the table that is left, and the cookie cleared
-pub left_done : (b b' o o' register q v cookie : List ℕ) (url : Value) {r r' : Outcome} → Holds b' (without_session cookie (decode_table b)) → v ≡ link_to (value_at false q url) (decode_register register)
-    → Said (SignedOut v) r o o' → r' ≡ cleared_if true r → Done (logout (Given (value_at false q url)) (leaves register cookie) (decode_table b)) r' b' o o'
+pub left_done : (b b' o o' register v cookie : List ℕ) (url : Value) {r r' : Outcome} → Holds b' (without_session cookie (decode_table b)) → v ≡ link_to (text_of url) (decode_register register)
+    → Said (SignedOut v) r o o' → r' ≡ cleared_if true r → Done (logout (Given (text_of url)) (leaves register cookie) (decode_table b)) r' b' o o'
 unfolding logout outcome_with
-left_done b b' o o' register q v cookie url h k s e =
+left_done b b' o o' register v cookie url h k s e =
     record { outcome = rw (← k) (e ∙ ap (cleared_if true) s.outcome); table = h; out = rw (← k) s.out; cookie = refl }
 
 -- by what was read
-module _ (q : List ℕ) (x : LogoutQuery) (k : LeavingIn q x) where
-  pub refused : (b o o' : List ℕ) (g : Brought) {r : Outcome} → x ≡ logout-query.Malformed → Fine b → Said (ErrorPage 400) r o o' → Done (logout (leaving q) g (decode_table b)) r b o o'
+module _ (q : List ℕ) (x : Option Value) (k : LeavingIn q x) where
+  pub refused : (b o o' : List ℕ) (g : Brought) {r : Outcome} → x ≡ None → Fine b → Said (ErrorPage 400) r o o' → Done (logout (leaving q) g (decode_table b)) r b o o'
   unfolding logout
   refused b o o' g e f s =
-      let m : Malformed ≡ leaving q = sym (ap (spelled_leaving q) e) ∙ k.spells in
+      let m : Malformed ≡ leaving q = sym (ap spelled_leaving e) ∙ k.spells in
       rw (sym m) (only_said f s)
 
-  module _ (u : Value) (e : x ≡ logout-query.Given u) where
-    pub url_readable : Readable false 200 q u
+  module _ (u : Value) (e : x ≡ Some u) where
+    pub url_short : Short 200 u
     unfolding value_most among same
-    url_readable = let f : LeavingFits q (logout-query.Given u) = rw e at k.fits in f
+    url_short = let f : LeavingFits (Some u) = rw e at k.fits in f
 
-    pub answered : (b b' o o' : List ℕ) (g : Brought) {r : Outcome} → Done (logout (Given (value_at false q u)) g (decode_table b)) r b' o o' → Done (logout (leaving q) g (decode_table b)) r b' o o'
+    pub answered : (b b' o o' : List ℕ) (g : Brought) {r : Outcome} → Done (logout (Given (text_of u)) g (decode_table b)) r b' o o' → Done (logout (leaving q) g (decode_table b)) r b' o o'
     answered b b' o o' g {r} d =
-        let m : Given (value_at false q u) ≡ leaving q = sym (ap (spelled_leaving q) e) ∙ k.spells in
+        let m : Given (text_of u) ≡ leaving q = sym (ap spelled_leaving e) ∙ k.spells in
         rw m at d

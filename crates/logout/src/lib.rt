@@ -7,11 +7,11 @@ ghost use Rattle.protocol.specs.Table.{decode_table};
 ghost use Rattle.protocol.specs.Request as read;
 ghost use Rattle.protocol.specs.Steps.{without_session, logout};
 ghost use Rattle.protocol.specs.Held.{Fine, Holds, Done};
-ghost use Rattle.request.specs.Value.{value_at, Readable};
+ghost use Rattle.request.specs.Value.{text_of, Short};
 ghost use Rattle.logout.specs.Leaving.{Given, leaving};
 
-use protocol::Outcome;
-use request::{LogoutQuery, Value};
+use protocol::{Brings, Outcome};
+use request::Value;
 
 // The cookie's live session ends, where there is one.
 fn end_named(table: &mut [u8], cookie: &[u8])
@@ -25,31 +25,24 @@ fn end_named(table: &mut [u8], cookie: &[u8])
 }
 
 // The page links back to the url where that is a registered service.
-fn leave_for(
-    table: &mut [u8],
-    register: &[u8],
-    q: &[u8],
-    url: Value,
-    cookie: &[u8],
-    out: &mut [u8],
-) -> Outcome
-    requires { (Given table.old out.old) × (Readable false 200 q.now url) }
-    ensures { Done (logout (read.Given (value_at false q.now url))
-        (leaving register.now cookie.now) (decode_table table.old)) result table.new
+fn leave_for(table: &mut [u8], url: Value<'_>, brings: Brings<'_>, out: &mut [u8]) -> Outcome
+    requires { (Given table.old out.old) × (Short 200 url) }
+    ensures { Done (logout (read.Given (text_of url.entry))
+        (leaving brings.entry.register.now brings.entry.cookie.now) (decode_table table.old)) result table.new
         out.old out.new }
 {
-    end_named(table, cookie);
-    let link = known::service_of(register, q, url, false);
+    end_named(table, brings.cookie);
+    let link = known::service_of(brings.register, url);
     reply::with_cleared(reply::say_signed_out(out, link), true)
 }
 
-pub fn logout(table: &mut [u8], register: &[u8], q: &[u8], cookie: &[u8], out: &mut [u8]) -> Outcome
+pub fn logout(table: &mut [u8], q: &[u8], brings: Brings<'_>, out: &mut [u8]) -> Outcome
     requires { Given table.old out.old }
-    ensures { Done (logout (read.leaving q.now) (leaving register.now cookie.now)
+    ensures { Done (logout (read.leaving q.now) (leaving brings.entry.register.now brings.entry.cookie.now)
         (decode_table table.old)) result table.new out.old out.new }
 {
     match request::logout_query(q) {
-        LogoutQuery::Malformed => reply::say_page(out, 400),
-        LogoutQuery::Given { url } => leave_for(table, register, q, url, cookie, out),
+        Some(url) => leave_for(table, url, brings, out),
+        None => reply::say_page(out, 400),
     }
 }
