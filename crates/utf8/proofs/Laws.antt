@@ -8,7 +8,7 @@ use lib.ListN.{length, drop, get_or, drop_of_length-le}
 use borrow.Author.Tests.{lt-ltb, le-ltb, eq-eqb, ne_eqb}
 use Rattle.protocol.specs.Bytes.{if, within}
 use Rattle.protocol.proofs.Laws.{drop-step}
-use Rattle.utf8.specs.Machine.{begun, tailed, followed, is_start, judged_from}
+use Rattle.utf8.specs.Machine.{tailed, followed, is_start, judged_from}
 use Rattle.utf8.specs.declared.Next.{Next}
 use Rattle.utf8.specs.declared.Next.TheVariants.{Start, Tail, Bad}
 
@@ -33,14 +33,6 @@ module _ (lo hi more b : ℕ) where
   pub tail_bad : within lo hi b ≡ false → Bad ≡ tailed lo hi more b
   unfolding tailed
   tail_bad e = rw e
-
--- a byte by the state before it
-module _ (state next : Next) (b : ℕ) where
-  pub follow_first : state ≡ Start → next ≡ begun b → next ≡ followed state b
-  follow_first e h = rw e h
-
-  pub follow_tail : (lo hi more : ℕ) → state ≡ Tail lo hi more → next ≡ tailed lo hi more b → next ≡ followed state b
-  follow_tail lo hi more e h = rw e h
 
 -- what a state says of the rest: a byte more, the end, and nothing after what is bad
 pub judged-step : (state : Next) (b : ℕ) (s : List ℕ) → judged_from state (b ∷ s) ≡ judged_from (followed state b) s

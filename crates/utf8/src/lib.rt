@@ -15,57 +15,37 @@ pub enum Next {
     Bad,
 }
 
-// After a first byte: a row for each range, up to the byte before the next one's.
+// After a first byte: a row for each range.
+#[tactic(auto, using(crate::proofs::Laws::rung_yes, crate::proofs::Laws::rung_no), unfolding(crate::specs::Machine::begun))]
 fn begin(byte: usize) -> Next
     ensures { result ≡ begun byte }
 {
-    if byte < 0x20 {
-        return Next::Bad;
+    match byte {
+        0x20..=0x7E => Next::Start,
+        0xC2..=0xDF => Next::Tail(0x80, 0xBF, 0),
+        0xE0 => Next::Tail(0xA0, 0xBF, 1),
+        0xE1..=0xEC => Next::Tail(0x80, 0xBF, 1),
+        0xED => Next::Tail(0x80, 0x9F, 1),
+        0xEE..=0xEF => Next::Tail(0x80, 0xBF, 1),
+        0xF0 => Next::Tail(0x90, 0xBF, 2),
+        0xF1..=0xF3 => Next::Tail(0x80, 0xBF, 2),
+        0xF4 => Next::Tail(0x80, 0x8F, 2),
+        _ => Next::Bad,
     }
-    if byte < 0x7F {
-        return Next::Start;
-    }
-    if byte < 0xC2 {
-        return Next::Bad;
-    }
-    if byte < 0xE0 {
-        return Next::Tail(0x80, 0xBF, 0);
-    }
-    if byte < 0xE1 {
-        return Next::Tail(0xA0, 0xBF, 1);
-    }
-    if byte < 0xED {
-        return Next::Tail(0x80, 0xBF, 1);
-    }
-    if byte < 0xEE {
-        return Next::Tail(0x80, 0x9F, 1);
-    }
-    if byte < 0xF0 {
-        return Next::Tail(0x80, 0xBF, 1);
-    }
-    if byte < 0xF1 {
-        return Next::Tail(0x90, 0xBF, 2);
-    }
-    if byte < 0xF4 {
-        return Next::Tail(0x80, 0xBF, 2);
-    }
-    if byte < 0xF5 {
-        return Next::Tail(0x80, 0x8F, 2);
-    }
-    Next::Bad
 }
 
 // After a byte where one from lo to hi was due.
+#[tactic(auto, using(crate::proofs::Laws::tail_last, crate::proofs::Laws::tail_more, crate::proofs::Laws::tail_bad))]
 fn tail(lo: usize, hi: usize, more: usize, byte: usize) -> Next
     ensures { result ≡ tailed lo hi more byte }
 {
-    if (lo <= byte) & (byte <= hi) {
-        if more == 0 {
-            return Next::Start;
-        }
-        return Next::Tail(0x80, 0xBF, more - 1);
+    if !(lo..=hi).contains(&byte) {
+        return Next::Bad;
     }
-    Next::Bad
+    match more {
+        0 => Next::Start,
+        _ => Next::Tail(0x80, 0xBF, more - 1),
+    }
 }
 
 // The state after one more byte. A number over 255 is no byte, and bad.
@@ -83,21 +63,15 @@ pub fn follow(state: Next, byte: usize) -> Next
 pub fn is_start(state: Next) -> bool
     ensures { result ≡ is_start state }
 {
-    match state {
-        Next::Start => true,
-        Next::Tail(_, _, _) => false,
-        Next::Bad => false,
-    }
+    matches!(state, Next::Start)
 }
 
 pub fn is_name(bytes: &[u8]) -> bool
     ensures { result ≡ name_right bytes.now }
 {
     let mut state = Next::Start;
-    let mut i = 0;
-    while i < bytes.len() {
-        state = follow(state, text::wide(bytes[i]) as usize);
-        i += 1;
+    for byte in bytes {
+        state = follow(state, usize::from(*byte));
     }
     is_start(state)
 }

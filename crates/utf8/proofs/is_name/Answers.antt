@@ -4,11 +4,11 @@ use Rattle.utf8.proofs.Laws.{name_turn, name_done}
 use Rattle.utf8.proofs.Join.{judged_name_lem}
 use Rattle.utf8.proofs.is_name.Goals as goal
 
-pub loop-i-init : goal.loop-i-init
-loop-i-init c = judged_name_lem _
+pub loop-byte-init : goal.loop-byte-init
+loop-byte-init c = judged_name_lem _
 
-pub loop-i-preserved : goal.loop-i-preserved
-loop-i-preserved c = search (rules, name_turn)
+pub loop-byte-preserved : goal.loop-byte-preserved
+loop-byte-preserved c = search (rules, name_turn)
 
 pub returns : goal.returns
 returns c = search (rules, name_done)
