@@ -11,6 +11,7 @@ ghost use Rattle.calendar.specs.Years.{days_in};
 use protocol::{Date, YearDay};
 
 // The days of the first years of our era, counted from year 1.
+#[tactic(auto, unfolding(crate::specs::Years::days_in))]
 fn days_in(years: u64) -> u64
     requires { years ≤ 40000 }
     ensures { result ≡ days_in years }
@@ -38,25 +39,23 @@ fn year_of(days: u64) -> YearDay
     }
 }
 
+#[tactic(auto, unfolding(protocol::specs::Calendar::is_leap))]
 fn is_leap(year: u64) -> bool
     ensures { result ≡ is_leap year }
 {
-    (year % 4 == 0) & (!(year % 100 == 0) | (year % 400 == 0))
+    year % 4 == 0 && (year % 100 != 0 || year % 400 == 0)
 }
 
+#[tactic(auto, using(crate::proofs::Months::long_february, crate::proofs::Months::short_february, crate::proofs::Months::short_month, crate::proofs::Months::long_month))]
 fn month_length(year: u64, month: u64) -> u64
     ensures { result ≡ month_length year month }
 {
-    if month == 2 {
-        if is_leap(year) {
-            return 29;
-        }
-        return 28;
+    match month {
+        2 if is_leap(year) => 29,
+        2 => 28,
+        4 | 6 | 9 | 11 => 30,
+        _ => 31,
     }
-    if (month == 4) | (month == 6) | (month == 9) | (month == 11) {
-        return 30;
-    }
-    31
 }
 
 // The date of a day of a year.
@@ -64,9 +63,8 @@ fn month_of(year: u64, day: u64) -> Date
     requires { day < 366 }
     ensures { result ≡ month_of year day }
 {
-    let mut month = 1;
     let mut left = day;
-    while month < 12 {
+    for month in 1..12 {
         let length = month_length(year, month);
         if left < length {
             return Date {
@@ -76,11 +74,10 @@ fn month_of(year: u64, day: u64) -> Date
             };
         }
         left -= length;
-        month += 1;
     }
     Date {
         year,
-        month,
+        month: 12,
         day: left + 1,
     }
 }
@@ -100,7 +97,7 @@ fn put_two(out: &mut [u8], at: usize, mark: u8, v: u64) -> usize
     requires v_bound { v < 100 }
     ensures { Wrote out.old at out.new result (mark ∷ padded 2 v) }
 {
-    let three = [mark, 48 + (v / 10) as u8, 48 + (v % 10) as u8];
+    let three = [mark, b'0' + (v / 10) as u8, b'0' + (v % 10) as u8];
     text::put_bytes(out, at, &three)
 }
 
