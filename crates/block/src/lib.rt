@@ -14,11 +14,8 @@ pub fn get(s: &[u8], at: usize, n: usize) -> u64
     ensures { (result ≡ num at n s.now) × (result < 256 ^ n) }
 {
     let mut v: u64 = 0;
-    let mut i = 0;
-    while i < n {
-        let place = n - 1 - i;
-        v = v * 256 + text::wide(s[at + place]);
-        i += 1;
+    for i in (0..n).rev() {
+        v = v * 256 + u64::from(s[at + i]);
     }
     v
 }
@@ -49,10 +46,8 @@ pub fn all_within(s: &[u8], lo: u8, hi: u8) -> bool
     ensures { result ≡ all_within lo hi s.now }
 {
     let mut good = true;
-    let mut i = 0;
-    while i < s.len() {
-        good = good & (lo <= s[i]) & (s[i] <= hi);
-        i += 1;
+    for b in s {
+        good = good & (lo <= *b) & (*b <= hi);
     }
     good
 }
@@ -65,11 +60,9 @@ pub fn put(s: &mut [u8], at: usize, n: usize, v: u64)
     ensures { s.new ≡ spliced s.old at (bytes_of n v) }
 {
     let mut w = v;
-    let mut i = 0;
-    while i < n {
+    for i in 0..n {
         s[at + i] = (w % 256) as u8;
         w /= 256;
-        i += 1;
     }
 }
 
@@ -135,11 +128,9 @@ pub fn padded_check(s: &[u8], n: usize) -> u32
 {
     let mut a: u64 = 1;
     let mut b: u64 = 0;
-    let mut i = 0;
-    while i < s.len() {
-        a += text::wide(s[i]);
+    for x in s {
+        a += u64::from(*x);
         b += a;
-        i += 1;
     }
     b += n as u64 * a;
     ((b % 65535) * 65536 + a % 65535) as u32
