@@ -18,39 +18,41 @@ num-suc : (k : ℕ) (s : List ℕ) (at : ℕ) → at < length s → num at (suc 
 unfolding le_of
 num-suc k s at h = rw (add-one, drop-cons s at 0)
 
--- the reader goes down from the highest byte: the last i of n bytes are read, and v is their number
-pub record Got (s : List ℕ) (at n i v : ℕ) : Type 0 where
-  pub high : i ≤ n
-  pub below : v < 256 ^ i
-  pub is : v ≡ num (at + (n - i)) i s
+-- the reader goes down from the highest byte: those from k on are read of n bytes, and v is their number
+pub record Got (s : List ℕ) (at n k v : ℕ) : Type 0 where
+  pub high : k ≤ n
+  pub below : v < 256 ^ (n - k)
+  pub is : v ≡ num (at + k) (n - k) s
 
-pub got_none : (s : List ℕ) (at n : ℕ) → Got s at n 0 0
+pub got_none : (s : List ℕ) (at n : ℕ) → Got s at n n 0
 unfolding le_of
-got_none s at n = record { high = omega arith; below = lit< tt; is = refl }
+got_none s at n =
+    let e : n - n ≡ 0 = omega arith in
+    record { high = omega arith; below = rw e (lit< tt); is = rw e }
 
-pub got_more : (s : List ℕ) (at n i v : ℕ) {w : ℕ} → Got s at n i v → i < n → at + n ≤ length s → w ≡ get_or s (at + (n - 1 - i)) 0 → w < 256 → Got s at n (i + 1) (v * 256 + w)
-got_more s at n i v g p h e k =
-    let a : n - (i + 1) ≡ n - 1 - i = omega arith in
-    let b : at + (n - 1 - i) + 1 ≡ at + (n - i) = omega arith in
+pub got_more : (s : List ℕ) (at n k v : ℕ) {w : ℕ} → Got s at n k v → 0 < k → at + n ≤ length s → w ≡ get_or s (at + (k - 1)) 0 → w < 256 → Got s at n (k - 1) (v * 256 + w)
+got_more s at n k v g p h e l =
+    let a : n - (k - 1) ≡ suc (n - k) = omega (arith, g.high) in
+    let b : at + (k - 1) + 1 ≡ at + k = omega arith in
     record {
-      high = omega arith;
-      below = rw add-one (omega (arith, pow-suc 256 i, g.below));
-      is = rw (a, add-one) (omega (arith, g.is, rw b at (num-suc i s (at + (n - 1 - i)) (omega arith))));
+      high = omega (arith, g.high);
+      below = rw a (omega (arith, pow-suc 256 (n - k), g.below));
+      is = rw a (omega (arith, g.is, rw b at (num-suc (n - k) s (at + (k - 1)) (omega (arith, g.high)))));
     }
 
 -- so far there is room for one byte more
-pub got_room : (s : List ℕ) (at n i v : ℕ) → Got s at n i v → i < n → n ≤ 8 → v < 256 ^ 7
-got_room s at n i v g h k = let l : i ≤ 7 = omega arith in lt_of_lt_of_le g.below (pow-le-pow_right (lit< tt) l)
+pub got_room : (s : List ℕ) (at n k v : ℕ) → Got s at n k v → 0 < k → n ≤ 8 → v < 256 ^ 7
+got_room s at n k v g h m = let l : n - k ≤ 7 = omega arith in lt_of_lt_of_le g.below (pow-le-pow_right (lit< tt) l)
 
-pub got_all : (s : List ℕ) (at n i : ℕ) {v : ℕ} → Got s at n i v → n ≤ i → v ≡ num at n s
-got_all s at n i g h =
-    let a : i ≡ n = omega (arith, g.high) in
-    let b : at + (n - i) ≡ at = omega (arith, g.high) in
+pub got_all : (s : List ℕ) (at n k : ℕ) {v : ℕ} → Got s at n k v → k ≤ 0 → v ≡ num at n s
+got_all s at n k g h =
+    let a : n - k ≡ n = omega arith in
+    let b : at + k ≡ at = omega arith in
     g.is ∙ rw (b, a)
 
-pub got_below : (s : List ℕ) (at n i : ℕ) {v : ℕ} → Got s at n i v → n ≤ i → v < 256 ^ n
-got_below s at n i g h =
-    let a : i ≡ n = omega (arith, g.high) in
+pub got_below : (s : List ℕ) (at n k : ℕ) {v : ℕ} → Got s at n k v → k ≤ 0 → v < 256 ^ n
+got_below s at n k g h =
+    let a : n - k ≡ n = omega arith in
     rw a at g.below
 
 -- stores one after the other are the text written over

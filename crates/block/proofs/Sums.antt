@@ -2,7 +2,7 @@
 use mathlib.Core.Path.{◌≡◌, refl, ◌∙◌}
 use mathlib.Core.List.{List, ◌∷◌, ◌++◌, append-nil}
 use Prim.Native.Nat.{ℕ, zero, suc, ◌+◌, ◌%◌, ◌*◌, ◌<◌, ◌≤◌}
-use native.Mathlib.Nat.{add-zero, zero-mul, suc-mul, mul-le-mul, mod-add-mod, add-mod-mod, mod-mod}
+use native.Mathlib.Nat.{add-zero, zero-mul, suc-mul, mod-add-mod, add-mod-mod, mod-mod}
 use native.Mathlib.Numerals.{add-one}
 use native.Mathlib.Omega.{arith}
 use lib.ListN.{length, drop, get_or, drop_of_length-le}
@@ -36,7 +36,3 @@ sums_done s n i a b h = rw (drop_of_length-le s h) (zeros_sums n a b)
 -- no zeros
 pub check_bare : (s : List ℕ) {r : ℕ} → r ≡ house_check (s ++ zeros 0) → r ≡ house_check s
 check_bare s e = e ∙ rw (append-nil s)
-
--- the growth over the zeros of a block is small
-pub growth_low : (n a : ℕ) → n ≤ 4096 → a ≤ 1044481 → n * a ≤ 4278194176
-growth_low n a h g = mul-le-mul h g

@@ -1,10 +1,85 @@
 // The house block: little-endian fields in place, and the check of a block. Everything works on a part of the caller's bytes.
 #![tactic(auto)]
 
-ghost use Rattle.std.specs.Prelude.{◌≡◌, [], ◌∷◌, ◌++◌, ◌+◌, ◌-◌, ◌*◌, ◌≤◌, ◌<◌, ◌^◌, length, take};
+ghost use Rattle.std.specs.Prelude.{◌≡◌, [], ◌∷◌, ◌++◌, ◌+◌, ◌-◌, ◌*◌, ◌≤◌, ◌<◌, ◌^◌, length, take, ℕ};
+ghost use Rattle.std.proofs.Common.{lit≤};
 ghost use Rattle.protocol.specs.Bytes.{all_within, num, part, bytes_of, zeros, pad_to, spliced};
 ghost use Rattle.protocol.specs.Blocks.{house_check, check_right, sealed};
 ghost use Rattle.block.specs.Checks.{check_right_to};
+
+// ---- what a field holds
+
+// A number that fills a field: as many bytes as its type has.
+pub trait Field: Copy {
+    ghost WIDTH: { ℕ };
+
+    ghost value: { Self → ℕ };
+
+    const WIDTH: usize;
+
+    fn of(n: u64) -> Self
+        requires { n < 256 ^ WIDTH }
+        ensures { value result ≡ n };
+
+    fn number(self) -> u64
+        ensures { result ≡ value self };
+
+    ghost fits: { WIDTH ≤ 8 };
+}
+
+impl Field for u16 {
+    ghost WIDTH = { 2 };
+
+    ghost value = { λ v. v };
+
+    const WIDTH: usize = 2;
+
+    fn of(n: u64) -> u16 {
+        n as u16
+    }
+
+    fn number(self) -> u64 {
+        u64::from(self)
+    }
+
+    ghost fits = { lit≤ tt };
+}
+
+impl Field for u32 {
+    ghost WIDTH = { 4 };
+
+    ghost value = { λ v. v };
+
+    const WIDTH: usize = 4;
+
+    fn of(n: u64) -> u32 {
+        n as u32
+    }
+
+    fn number(self) -> u64 {
+        u64::from(self)
+    }
+
+    ghost fits = { lit≤ tt };
+}
+
+impl Field for u64 {
+    ghost WIDTH = { 8 };
+
+    ghost value = { λ v. v };
+
+    const WIDTH: usize = 8;
+
+    fn of(n: u64) -> u64 {
+        n
+    }
+
+    fn number(self) -> u64 {
+        self
+    }
+
+    ghost fits = { lit≤ tt };
+}
 
 // ---- fields read
 
@@ -14,34 +89,18 @@ pub fn get(s: &[u8], at: usize, n: usize) -> u64
     ensures { (result ≡ num at n s.now) × (result < 256 ^ n) }
 {
     let mut v: u64 = 0;
-    let mut i = 0;
-    while i < n {
-        let place = n - 1 - i;
-        v = v * 256 + text::wide(s[at + place]);
-        i += 1;
+    for i in (0..n).rev() {
+        v = v * 256 + u64::from(s[at + i]);
     }
     v
 }
 
-pub fn get_u16(s: &[u8], at: usize) -> u16
-    requires { at + 2 ≤ length s.now }
-    ensures { result ≡ num at 2 s.now }
+// A field's number, of its type's width.
+pub fn read<F: Field>(s: &[u8], at: usize) -> F
+    requires { at + F.WIDTH ≤ length s.now }
+    ensures { F.value result ≡ num at F.WIDTH s.now }
 {
-    get(s, at, 2) as u16
-}
-
-pub fn get_u32(s: &[u8], at: usize) -> u32
-    requires { at + 4 ≤ length s.now }
-    ensures { result ≡ num at 4 s.now }
-{
-    get(s, at, 4) as u32
-}
-
-pub fn get_u64(s: &[u8], at: usize) -> u64
-    requires { at + 8 ≤ length s.now }
-    ensures { result ≡ num at 8 s.now }
-{
-    get(s, at, 8)
+    F::of(get(s, at, F::WIDTH))
 }
 
 // Is every byte from lo to hi? Zeros are the bytes from 0 to 0. The loop has no early end, so that many bytes are taken at a time.
@@ -49,10 +108,8 @@ pub fn all_within(s: &[u8], lo: u8, hi: u8) -> bool
     ensures { result ≡ all_within lo hi s.now }
 {
     let mut good = true;
-    let mut i = 0;
-    while i < s.len() {
-        good = good & (lo <= s[i]) & (s[i] <= hi);
-        i += 1;
+    for b in s {
+        good = good & (lo <= *b) & (*b <= hi);
     }
     good
 }
@@ -65,11 +122,9 @@ pub fn put(s: &mut [u8], at: usize, n: usize, v: u64)
     ensures { s.new ≡ spliced s.old at (bytes_of n v) }
 {
     let mut w = v;
-    let mut i = 0;
-    while i < n {
+    for i in 0..n {
         s[at + i] = (w % 256) as u8;
         w /= 256;
-        i += 1;
     }
 }
 
@@ -80,25 +135,11 @@ pub fn put_u8(s: &mut [u8], at: usize, v: u8)
     s[at] = v;
 }
 
-pub fn put_u16(s: &mut [u8], at: usize, v: u16)
-    requires { at + 2 ≤ length s.old }
-    ensures { s.new ≡ spliced s.old at (bytes_of 2 v) }
+pub fn write<F: Field>(s: &mut [u8], at: usize, v: F)
+    requires { at + F.WIDTH ≤ length s.old }
+    ensures { s.new ≡ spliced s.old at (bytes_of F.WIDTH (F.value v)) }
 {
-    put(s, at, 2, v as u64)
-}
-
-pub fn put_u32(s: &mut [u8], at: usize, v: u32)
-    requires { at + 4 ≤ length s.old }
-    ensures { s.new ≡ spliced s.old at (bytes_of 4 v) }
-{
-    put(s, at, 4, v as u64)
-}
-
-pub fn put_u64(s: &mut [u8], at: usize, v: u64)
-    requires { at + 8 ≤ length s.old }
-    ensures { s.new ≡ spliced s.old at (bytes_of 8 v) }
-{
-    put(s, at, 8, v)
+    put(s, at, F::WIDTH, v.number())
 }
 
 pub fn copy_at(s: &mut [u8], at: usize, src: &[u8])
@@ -135,11 +176,9 @@ pub fn padded_check(s: &[u8], n: usize) -> u32
 {
     let mut a: u64 = 1;
     let mut b: u64 = 0;
-    let mut i = 0;
-    while i < s.len() {
-        a += text::wide(s[i]);
+    for x in s {
+        a += u64::from(*x);
         b += a;
-        i += 1;
     }
     b += n as u64 * a;
     ((b % 65535) * 65536 + a % 65535) as u32
@@ -168,7 +207,7 @@ pub fn block_ok_to(table: &[u8], slot: usize, used: usize) -> bool
     let from = 512 * slot;
     let to = from + 508;
     let sum = check_to(&table[from..to], used);
-    sum == get_u32(table, to)
+    sum == read(table, to)
 }
 
 // Is the check right of the block at a slot of the lent table?
@@ -185,5 +224,5 @@ pub fn seal(block: &mut [u8])
     ensures { block.new ≡ sealed (take 508 block.old) }
 {
     let sum = block_check(&block[..508]);
-    put_u32(block, 508, sum);
+    write(block, 508, sum);
 }

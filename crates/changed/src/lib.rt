@@ -13,10 +13,8 @@ fn alike(a: &[u8], b: &[u8]) -> bool
     ensures { result ≡ same a.now b.now }
 {
     let mut good = true;
-    let mut i = 0;
-    while i < a.len() {
-        good = good & (a[i] == b[i]);
-        i += 1;
+    for (x, y) in a.iter().zip(b) {
+        good = good & (*x == *y);
     }
     good
 }
@@ -56,10 +54,8 @@ fn put_blocks(old: &[u8], new: &[u8], out: &mut [u8], at: usize) -> usize
 {
     let m = new.len() / 512;
     let mut to = at;
-    let mut k = 0;
-    while k < m {
+    for k in 0..m {
         to = put_block(old, new, k, out, to);
-        k += 1;
     }
     to
 }

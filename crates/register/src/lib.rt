@@ -49,7 +49,7 @@ fn text_of<'a>(b: &'a [u8], field: usize, at: usize) -> &'a [u8]
     requires { (length b.now ≡ 512) × (field ≤ 2) × (at ≤ 204) }
     ensures { result.now ≡ part at (num field 2 b.now) b.now }
 {
-    let n = block::get_u16(b, field) as usize;
+    let n = block::read::<u16>(b, field) as usize;
     let to = at + n;
     if to < 512 {
         return &b[at..to];

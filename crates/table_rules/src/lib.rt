@@ -104,7 +104,7 @@ pub fn record_right(block: &[u8], f: Fields, clock: u64, next: u32) -> bool
     requires { (length block.now ≡ 512) × (f ≡ fields_of (decode_rec block.now)) × (clock ≤ last_time) }
     ensures { result ≡ record_right clock next block.now }
 {
-    let n = block::get_u16(block, table::AT_LENGTH);
+    let n = block::read::<u16>(block, table::AT_LENGTH);
     let good = limits_right(f, n);
     if good {
         return secrets_right(block, f.kind)
@@ -123,9 +123,9 @@ pub fn head_right(table: &[u8], count: usize) -> bool
     requires { (512 ≤ length table.now) × (count < 65536) }
     ensures { result ≡ head_right count table.now }
 {
-    (block::get_u64(table, table::AT_CLOCK) <= LAST_TIME)
+    (block::read::<u64>(table, table::AT_CLOCK) <= LAST_TIME)
         & text::same(&table[0..table::AT_COUNT], b"TKTS")
-        & (block::get_u16(table, table::AT_COUNT) as usize == count)
-        & (block::get_u16(table, table::AT_FORM) == 1)
+        & (block::read::<u16>(table, table::AT_COUNT) as usize == count)
+        & (block::read::<u16>(table, table::AT_FORM) == 1)
         & block::all_within(&table[table::END_NEXT..table::AT_CHECK], 0, 0)
 }

@@ -1,11 +1,6 @@
--- What was found of the bytes before i, and the test of what is left, are that of the whole.
-use Prim.Native.Nat.{◌-◌}
-use lib.ListN.{length}
+-- What was found of the bytes before the next, and the test of what is left, are that of the whole.
 use Rattle.block.proofs.Within.{Passed}
 use Rattle.block.proofs.all_within.Given as goal
 
-abbrev pub invariant-loop-i : goal.invariant-loop-i
-invariant-loop-i l = Passed l.lo l.hi l.s l.good l.i
-
-abbrev pub decreases-loop-i : goal.decreases-loop-i
-decreases-loop-i l = length l.s - l.i
+abbrev pub invariant-loop-b : goal.invariant-loop-b
+invariant-loop-b l = Passed l.lo l.hi l.s l.good l.b-index

@@ -1,10 +1,6 @@
--- The last i bytes are read; their number is so far the result.
-use Prim.Native.Nat.{◌-◌}
+-- The bytes from i on are read; their number is so far the result.
 use Rattle.block.proofs.Laws.{Got}
 use Rattle.block.proofs.get.Given as goal
 
 abbrev pub invariant-loop-i : goal.invariant-loop-i
 invariant-loop-i l = Got l.s l.at l.n l.i l.v
-
-abbrev pub decreases-loop-i : goal.decreases-loop-i
-decreases-loop-i l = l.n - l.i

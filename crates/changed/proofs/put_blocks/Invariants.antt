@@ -8,6 +8,3 @@ use Rattle.changed.proofs.put_blocks.Given as goal
 
 abbrev pub invariant-loop-k : goal.invariant-loop-k
 invariant-loop-k l = (l.m ≡ length l.new / 512) × (l.k ≤ l.m) × (l.to ≤ l.at + 516 * l.k) × (length l.out ≡ length l.initial.out) × Left l.initial.out l.at (blocks_text (changes_of l.old l.new)) l.out l.to (blocks_text (changes_from l.k (l.m - l.k) l.old l.new))
-
-abbrev pub decreases-loop-k : goal.decreases-loop-k
-decreases-loop-k l = l.m - l.k
