@@ -7,7 +7,7 @@ use native.Mathlib.Omega.{arith}
 use lib.Dec.{eqb, ltb, leb}
 use lib.ListN.{length, drop, get_or, set, drop_of_length-le, get_or-eq_default}
 use lib.Seq.{drop-drop, get_or-drop}
-use borrow.Author.Tests.{le-leb, lt-leb, eq-eqb, ne_eqb, eqb-true, eqb-false, ltb-true, ltb-false, leb-true}
+use borrow.Author.Tests.{le-leb, lt-leb, eq-eqb, ne_eqb, eqb-true, eqb-false, lt-ltb, ltb-true, ltb-false, leb-true}
 use Rattle.protocol.specs.Bytes.{if, same, within, all_within}
 use Rattle.protocol.specs.Request.{hex_value, hex_leads, unit_of, skip_of, decoded_from, decoded}
 use Rattle.protocol.specs.Written.{Wrote}
@@ -20,34 +20,56 @@ use Rattle.utf8.specs.Machine.{followed, is_start, judged_from}
 use Rattle.utf8.proofs.Laws.{judged_turn, judged_done}
 use Rattle.utf8.proofs.Join.{judged_name_lem}
 use Rattle.decode.specs.Judging.{Hex, UnitAt, judged, judged_name}
-use Rattle.std.specs.Prelude.{Some, None}
+use Rattle.std.specs.Prelude.{Option, Some, None, unwrap_or}
 
 pub byte_none : (s : List ℕ) (i : ℕ) → length s ≤ i → 0 ≡ get_or s i 0
 byte_none s i h = sym (get_or-eq_default s 0 h)
 
--- a hex digit, by the ladder of its tests
-pub within_low : (lo hi v : ℕ) → within lo hi v ≡ true → lo ≤ v
-within_low lo hi v e = leb-true lo v (both (leb lo v) (leb v hi) e).0
-
-pub within_high : (lo hi v : ℕ) → within lo hi v ≡ true → v ≤ hi
+within_high : (lo hi v : ℕ) → within lo hi v ≡ true → v ≤ hi
 within_high lo hi v e = leb-true v hi (both (leb lo v) (leb v hi) e).1
 
+-- a hex digit, by the ladder of its tests: the byte lies in a range, below it or above it
+lies : (lo hi v : ℕ) → lo ≤ v → v ≤ hi → within lo hi v ≡ true
+lies lo hi v l h = rw (le-leb lo v l, le-leb v hi h)
+
+below : (lo hi v : ℕ) → v < lo → within lo hi v ≡ false
+below lo hi v h = rw (lt-leb lo v h)
+
+above : (lo hi v : ℕ) → hi < v → within lo hi v ≡ false
+above lo hi v h = rw (lt-leb v hi h) (go (leb lo v))
+  where
+    go : (t : Bool) → t && false ≡ false
+    go true = refl
+    go false = refl
+
 module _ (b v : ℕ) (w : v ≡ b) where
-  pub hex_digit_lem : within 48 57 v ≡ true → Hex b (v - 48)
+  pub hex_digit_lem : 48 ≤ v → v ≤ 57 → Hex b (Some (v - 48))
   unfolding hex_value
-  hex_digit_lem e = record { is = rw (← w, e); most = omega (arith, within_high 48 57 v e) }
+  hex_digit_lem l h = record { is = rw (← w, lies 48 57 v l h); small = omega arith }
 
-  pub hex_upper : within 48 57 v ≡ false → within 65 70 v ≡ true → Hex b (v - 55)
+  pub hex_upper : 65 ≤ v → v ≤ 70 → Hex b (Some (v - 55))
   unfolding hex_value
-  hex_upper d e = record { is = rw (← w, d, e); most = omega (arith, within_high 65 70 v e) }
+  hex_upper l h = record { is = rw (← w, above 48 57 v (omega arith), lies 65 70 v l h); small = omega arith }
 
-  pub hex_lower : within 48 57 v ≡ false → within 65 70 v ≡ false → within 97 102 v ≡ true → Hex b (v - 87)
+  pub hex_lower : 97 ≤ v → v ≤ 102 → Hex b (Some (v - 87))
   unfolding hex_value
-  hex_lower d u e = record { is = rw (← w, d, u, e); most = omega (arith, within_high 97 102 v e) }
+  hex_lower l h = record { is = rw (← w, above 48 57 v (omega arith), above 65 70 v (omega arith), lies 97 102 v l h); small = omega arith }
 
-  pub hex_none : within 48 57 v ≡ false → within 65 70 v ≡ false → within 97 102 v ≡ false → Hex b 16
+  none_by : within 48 57 v ≡ false → within 65 70 v ≡ false → within 97 102 v ≡ false → Hex b None
   unfolding hex_value
-  hex_none d u l = record { is = rw (← w, d, u, l); most = omega arith }
+  none_by d u l = record { is = rw (← w, d, u, l); small = omega arith }
+
+  pub hex_none_first : v < 48 → Hex b None
+  hex_none_first h = none_by (below 48 57 v h) (below 65 70 v (omega arith)) (below 97 102 v (omega arith))
+
+  pub hex_none_second : 57 < v → v < 65 → Hex b None
+  hex_none_second l h = none_by (above 48 57 v l) (below 65 70 v h) (below 97 102 v (omega arith))
+
+  pub hex_none_third : 70 < v → v < 97 → Hex b None
+  hex_none_third l h = none_by (above 48 57 v (omega arith)) (above 65 70 v l) (below 97 102 v h)
+
+  pub hex_none_last : 102 < v → Hex b None
+  hex_none_last l = none_by (above 48 57 v (omega arith)) (above 65 70 v (omega arith)) (above 97 102 v l)
 
 -- skipping bytes that belong to a byte before
 decoded_skip : (in_body : Bool) (k : ℕ) (s : List ℕ) → decoded_from in_body k s ≡ decoded in_body (drop k s)
@@ -87,27 +109,31 @@ module _ (in_body : Bool) (s : List ℕ) (i : ℕ) (h : i < length s) where
       record { step = decoded-step ∙ ap (λ (u : ℕ). u ∷ decoded in_body (drop (i + 1 + skip_of b t) s)) e ∙ ap (λ (m : ℕ). v ∷ decoded in_body (drop m s)) k; later = omega arith; inside = l }
 
   -- `%`, and what stands behind it
-  module _ (e : b ≡ 37) (x y high low : ℕ) (ex : x ≡ get_or s (i + 1) 0) (hx : Hex x high) (ey : y ≡ get_or s (i + 2) 0) (hy : Hex y low) where
-    first : high ≡ hex_value (get_or t 0 0)
+  module _ (e : b ≡ 37) (x y : ℕ) (high low : Option ℕ) (ex : x ≡ get_or s (i + 1) 0) (hx : Hex x high) (ey : y ≡ get_or s (i + 2) 0) (hy : Hex y low) where
+    first : unwrap_or high 16 ≡ hex_value (get_or t 0 0)
     first = let k : i + 1 + 0 ≡ i + 1 = omega arith in hx.is ∙ ap hex_value (ex ∙ sym (get_or-drop (i + 1) s 0 0 ∙ ap (λ (k : ℕ). get_or s k 0) k))
 
-    second : low ≡ hex_value (get_or t 1 0)
+    second : unwrap_or low 16 ≡ hex_value (get_or t 1 0)
     second = let k : i + 1 + 1 ≡ i + 2 = omega arith in hy.is ∙ ap hex_value (ey ∙ sym (get_or-drop (i + 1) s 1 0 ∙ ap (λ (k : ℕ). get_or s k 0) k))
 
-    leads : (z : Bool) → ltb high 16 && ltb low 16 ≡ z → hex_leads t ≡ z
+    leads : (z : Bool) → ltb (unwrap_or high 16) 16 && ltb (unwrap_or low 16) 16 ≡ z → hex_leads t ≡ z
     leads z k = rw (← first, ← second) k
 
-    pub escape_byte : ltb high 16 && ltb low 16 ≡ true → UnitAt in_body s i (high * 16 + low) (i + 3)
+    pub escape_byte : (h l : ℕ) → high ≡ Some h → low ≡ Some l → UnitAt in_body s i (h * 16 + l) (i + 3)
     unfolding unit_of skip_of
-    escape_byte k =
-        let l : hex_leads t ≡ true = leads true k in
-        let val : unit_of in_body b t ≡ high * 16 + low = rw (eq-eqb b 37 e, l, ← first, ← second) in
-        let skip : skip_of b t ≡ 2 = rw (eq-eqb b 37 e, l) in
+    escape_byte h l eh el =
+        let vh : unwrap_or high 16 ≡ h = rw eh in
+        let vl : unwrap_or low 16 ≡ l = rw el in
+        let sh : h < 16 = rw eh at hx.small in
+        let sl : l < 16 = rw el at hy.small in
+        let k : hex_leads t ≡ true = leads true (rw (vh, vl, lt-ltb h 16 sh, lt-ltb l 16 sl)) in
+        let val : unit_of in_body b t ≡ h * 16 + l = rw (eq-eqb b 37 e, k, ← first, ← second, vh, vl) in
+        let skip : skip_of b t ≡ 2 = rw (eq-eqb b 37 e, k) in
         let n : i + 1 + skip_of b t ≡ i + 3 = omega arith in
-        let small : hex_value (get_or s (i + 2) 0) < 16 = rw (← ey, ← hy.is) (ltb-true low 16 (both (ltb high 16) (ltb low 16) k).1) in
-        by_value (high * 16 + low) (i + 3) val n (omega (arith, hex_inside s (i + 2) small))
+        let small : hex_value (get_or s (i + 2) 0) < 16 = rw (← ey, ← hy.is, vl) sl in
+        by_value (h * 16 + l) (i + 3) val n (omega (arith, hex_inside s (i + 2) small))
 
-    pub escape_bad : ltb high 16 && ltb low 16 ≡ false → UnitAt in_body s i 256 (i + 1)
+    escape_bad : ltb (unwrap_or high 16) 16 && ltb (unwrap_or low 16) 16 ≡ false → UnitAt in_body s i 256 (i + 1)
     unfolding unit_of skip_of
     escape_bad k =
         let l : hex_leads t ≡ false = leads false k in
@@ -115,6 +141,16 @@ module _ (in_body : Bool) (s : List ℕ) (i : ℕ) (h : i < length s) where
         let skip : skip_of b t ≡ 0 = rw (eq-eqb b 37 e, l) in
         let n : i + 1 + skip_of b t ≡ i + 1 = omega arith in
         by_value 256 (i + 1) val n (omega arith)
+
+    pub escape_no_high : high ≡ None → UnitAt in_body s i 256 (i + 1)
+    escape_no_high k = escape_bad (rw k)
+
+    pub escape_no_low : low ≡ None → UnitAt in_body s i 256 (i + 1)
+    escape_no_low k = escape_bad (rw k (go (ltb (unwrap_or high 16) 16)))
+      where
+        go : (t : Bool) → t && false ≡ false
+        go true = refl
+        go false = refl
 
   -- any other byte
   module _ (ne : b ≡ 37 → ⊥) where

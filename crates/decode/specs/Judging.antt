@@ -1,13 +1,13 @@
 -- A raw value read a byte at a time, and judged as a whole.
-use Rattle.std.specs.Prelude.{◌≡◌, Bool, ◌&&◌, List, ◌∷◌, ℕ, ◌≤◌, ◌<◌, leb, length, drop, Option, Some, None}
+use Rattle.std.specs.Prelude.{◌≡◌, Bool, ◌&&◌, List, ◌∷◌, ℕ, ◌≤◌, ◌<◌, leb, length, drop, Option, Some, None, unwrap_or}
 use Rattle.protocol.specs.Utf8.{name_right}
 use Rattle.protocol.specs.Bytes.{if, all_within}
 use Rattle.protocol.specs.Request.{hex_value, decoded}
 
--- r is the value of the hex digit b, 16 for any other byte
-pub record Hex (b r : ℕ) : Type 0 where
-  pub is : r ≡ hex_value b
-  pub most : r ≤ 16
+-- r is the value of the hex digit b, and none for any other byte, of which the meaning says 16
+pub record Hex (b : ℕ) (r : Option ℕ) : Type 0 where
+  pub is : unwrap_or r 16 ≡ hex_value b
+  pub small : unwrap_or r 0 < 16
 
 -- the byte that stands at a place of a raw value, and the place after it
 pub record UnitAt (in_body : Bool) (s : List ℕ) (i value next : ℕ) : Type 0 where

@@ -10,7 +10,8 @@ ghost use Rattle.decode.specs.Judging.{Hex, UnitAt, judged, judged_name};
 
 use utf8::Next;
 
-// The byte that stands at a place of a raw value, or 256 for a `%` without two hex digits; and the next place.
+// The byte that stands at a place of a raw value, or 256 for a `%` without two hex digits, as the meaning counts it (`unit_of`,
+// which may not change); and the next place.
 #[derive(Clone, Copy)]
 struct Unit {
     value: usize,
@@ -27,20 +28,17 @@ fn byte_at(s: &[u8], i: usize) -> u8
     0
 }
 
-fn hex_value(b: u8) -> usize
+// The value of a hex digit.
+fn hex_value(b: u8) -> Option<usize>
     ensures { Hex b result }
 {
-    let v = text::wide(b) as usize;
-    if (48 <= v) & (v <= 57) {
-        return v - 48;
+    let v = usize::from(b);
+    match v {
+        48..=57 => Some(v - 48),
+        65..=70 => Some(v - 55),
+        97..=102 => Some(v - 87),
+        _ => None,
     }
-    if (65 <= v) & (v <= 70) {
-        return v - 55;
-    }
-    if (97 <= v) & (v <= 102) {
-        return v - 87;
-    }
-    16
 }
 
 // What a `%` stands for.
@@ -51,15 +49,19 @@ fn escape_at(s: &[u8], i: usize, in_body: bool) -> Unit
 {
     let high = hex_value(byte_at(s, i + 1));
     let low = hex_value(byte_at(s, i + 2));
-    if (high < 16) & (low < 16) {
-        return Unit {
-            value: high * 16 + low,
-            next: i + 3,
-        };
-    }
-    Unit {
+    let bad = Unit {
         value: 256,
         next: i + 1,
+    };
+    let Some(high) = high else {
+        return bad;
+    };
+    let Some(low) = low else {
+        return bad;
+    };
+    Unit {
+        value: high * 16 + low,
+        next: i + 3,
     }
 }
 
@@ -78,10 +80,12 @@ fn unit_at(s: &[u8], i: usize, in_body: bool) -> Unit
         };
     }
     Unit {
-        value: text::wide(b) as usize,
+        value: usize::from(b),
         next: i + 1,
     }
 }
+
+// The loops below go by an index that moves by one or by three, so each moves it by hand.
 
 // The length of a value, decoded, where it has only bytes from lo to hi and at most so many. Nothing is written.
 pub fn judge(raw: &[u8], in_body: bool, lo: usize, hi: usize, most: usize) -> Option<usize>
@@ -137,7 +141,7 @@ pub fn is_text(raw: &[u8], in_body: bool, text: &[u8]) -> bool
         if text.len() <= at {
             return false;
         }
-        let b = text::wide(text[at]) as usize;
+        let b = usize::from(text[at]);
         if u.value != b {
             return false;
         }

@@ -8,7 +8,7 @@ ghost use Rattle.request.specs.Value.{text_of};
 ghost use Rattle.form.specs.Refused.{refused_form};
 
 use protocol::Form;
-use request::{LoginBody, Value};
+use request::Value;
 
 // The longest body.
 const BODY: usize = 1024;
@@ -55,18 +55,11 @@ pub fn read_form(body: &[u8], username: &mut [u8], password: &mut [u8]) -> Form
     if BODY < body.len() {
         return refused(5);
     }
-    let Some(
-        LoginBody {
-            username: user,
-            password: word,
-            ..
-        },
-    ) = request::login_body(body)
-    else {
+    let Some(posted) = request::login_body(body) else {
         return refused(7);
     };
-    if user.is_absent() | word.is_absent() {
+    if posted.username.is_absent() | posted.password.is_absent() {
         return refused(8);
     }
-    read_credentials(user, word, username, password)
+    read_credentials(posted.username, posted.password, username, password)
 }

@@ -12,7 +12,6 @@ use lib.Seq.{take-nil, drop-drop, take-take}
 use Rattle.protocol.specs.Bytes.{if, up_to, past, cut_at, part}
 use Rattle.protocol.specs.Request.{kept, pieces, name_in, value_in}
 use Rattle.protocol.proofs.Pieces.{pieces_step, pieces_none, take-up_to, past-drop}
-use Rattle.protocol.proofs.Laws.{drop-step}
 use Rattle.text.specs.First.{FirstAt}
 use Rattle.text.proofs.Laws.{tail_part}
 use Rattle.query.specs.Piece.{leading, piece_at, piece_from, piece_after}
@@ -43,25 +42,23 @@ past_last x s = go (ltb (length (up_to x s)) (length s)) refl
         let l : length s ≤ length (up_to x s) = ltb-false _ (length s) e in
         drop_end s (length s - length (past x s)) (omega (arith, past-length x s)) ∙ sym (past-drop x s ∙ drop_end s (suc (length (up_to x s))) (omega arith))
 
--- `skip_empty`: the `&` that lead are those passed and those that lead what is left
-module _ (q : List ℕ) (at i : ℕ) (inv : at + leading (drop at q) ≡ i + leading (drop i q)) where
-  pub skip_on : i < length q → get_or q i 0 ≡ 38 → at + leading (drop at q) ≡ (i + 1) + leading (drop (i + 1) q)
-  unfolding leading
-  skip_on h e =
-      let z : leading (drop i q) ≡ suc (leading (drop (i + 1) q)) = simp (drop-step q i h, eq-eqb _ _ e) in
-      omega arith
+-- `skip_empty`: the `&` that lead are those before the first other byte
+leading_is : (s : List ℕ) (r : ℕ) → r ≤ length s → (r < length s → get_or s r 0 ≡ 38 → ⊥) → ((k : ℕ) → k < r → get_or s k 0 ≡ 38) → leading s ≡ r
+unfolding leading
+leading_is [] r h stop on = omega arith
+leading_is (b ∷ s) zero h stop on = rw (ne_eqb b 38 (stop (omega arith)))
+leading_is (b ∷ s) (suc r) h stop on = rw (eq-eqb b 38 (on 0 (omega arith))) (ap suc (leading_is s r (omega arith) (λ l e. stop (omega arith) e) (λ k l. on (suc k) (omega arith))))
 
-  pub skip_stop : i < length q → (get_or q i 0 ≡ 38 → ⊥) → i ≡ at + leading (drop at q)
+module _ (q : List ℕ) (at : ℕ) where
+  pub skip_none : length q ≤ at → at ≡ at + leading (drop at q)
   unfolding leading
-  skip_stop h n =
-      let z : leading (drop i q) ≡ 0 = simp (drop-step q i h, ne_eqb _ _ n) in
-      omega arith
+  skip_none h = rw (drop_end q at h) (omega arith)
 
-  pub skip_end : length q ≤ i → i ≡ at + leading (drop at q)
-  unfolding leading
-  skip_end h =
-      let z : leading (drop i q) ≡ 0 = ap leading (drop_end q i h) in
-      omega arith
+  abbrev rest : List ℕ
+  rest = take (length q - at) (drop at q)
+
+  pub skip_some_place : (r : ℕ) → r ≤ length rest → (r < length rest → get_or rest r 0 ≡ 38 → ⊥) → ((k : ℕ) → k < r → get_or rest k 0 ≡ 38) → at + r ≡ at + leading (drop at q)
+  skip_some_place r h stop on = ap (λ (n : ℕ). at + n) (sym (leading_is rest r h stop on) ∙ ap leading (tail_part q at))
 
 -- `next_piece`
 abbrev pub placed : ℕ → ℕ → ℕ → ℕ → Piece

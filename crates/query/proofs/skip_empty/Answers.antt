@@ -1,13 +1,11 @@
--- Invariant: the `&` that lead are those passed and those that lead what is left. Assumes nothing.
+-- The place that `position` finds, or the end. Assumes nothing.
 use borrow.Author.Rules.{rules}
-use Rattle.query.proofs.Pieces.{skip_on, skip_stop, skip_end}
+use Rattle.std.proofs.iter.runs.Made.{chains}
+use Rattle.query.proofs.Pieces.{skip_none, skip_some_place}
 use Rattle.query.proofs.skip_empty.Goals as goal
 
-pub returns-then-query-i-ne38 : goal.returns-then-query-i-ne38
-returns-then-query-i-ne38 c = search (rules, skip_stop)
-
-pub loop-i-preserved : goal.loop-i-preserved
-loop-i-preserved c = search (rules, skip_on)
+pub returns-then-query-at : goal.returns-then-query-at
+returns-then-query-at c = search (rules, skip_none)
 
 pub returns : goal.returns
-returns c = search (rules, skip_end)
+returns c = skip_some_place c.args.query.now c.args.at c.unwrap_or.result (search (rules, chains)) (search (rules, chains)) (search (rules, chains))
