@@ -1,22 +1,29 @@
--- The login ticket that is spent, what is lent after that, and what is done.
-use Rattle.std.specs.Prelude.{◌≡◌, Bool, List, ℕ, ◌≤◌, length}
+-- The login ticket that is spent, what is lent after that, and what a body posts.
+use Rattle.std.specs.Prelude.{◌≡◌, Bool, List, ℕ, ◌≤◌, length, ltb}
+use Rattle.protocol.specs.Bytes.{if}
 use Rattle.protocol.specs.Tickets.{a_login}
-use Rattle.protocol.specs.Table.{Table, decode_table}
-use Rattle.protocol.specs.Steps.{Brought, Step, remove, slot_named, unknown_service, admission_of, entered}
+use Rattle.protocol.specs.Table.{decode_table}
+use Rattle.protocol.specs.Request.{Posted}
+use Rattle.protocol.specs.Steps.{remove, slot_named}
 use Rattle.protocol.specs.Held.{Fine, Holds}
+use Rattle.request.specs.Value.{text_of}
+use Rattle.request.specs.declared.LoginBody.{LoginBody}
 
--- the live login ticket of a text, in slot k (0: there is none), was removed
-pub record Spent (lt b b' : List ℕ) (k : ℕ) : Type 0 where
-  pub slot : k ≡ slot_named a_login lt (decode_table b)
-  pub table : Holds b' (remove k (decode_table b))
+-- credentials are judged by whether the login ticket's slot is 0, which is none: 1 stands for any other
+abbrev pub slot_if : Bool → ℕ
+slot_if live = if live 1 0
+
+-- the live login ticket of a text was removed, if there was one
+pub record Spent (lt b b' : List ℕ) (live : Bool) : Type 0 where
+  pub slot : live ≡ ltb 0 (slot_named a_login lt (decode_table b))
+  pub table : Holds b' (remove (slot_named a_login lt (decode_table b)) (decode_table b))
 
 -- what the credentials are judged with then: the table need not be lawful
-pub record Supplied (b random o c : List ℕ) : Type 0 where
+pub record Supplied (b o c : List ℕ) : Type 0 where
   pub fine : Fine b
-  pub drawn : length random ≡ 48
   pub out : 8192 ≤ length o
   pub cookie : 64 ≤ length c
 
--- what becomes of credentials whose login ticket was in slot k
-abbrev pub judged : ℕ → List ℕ → List ℕ → Bool → Brought → Table → Step
-judged k service user absent g t = entered (admission_of (unknown_service service g.register) k absent g.verdict) user service g t
+-- what a body posts
+abbrev pub posted_by : LoginBody → Posted
+posted_by p = record { service = text_of p.service; username = text_of p.username; password = text_of p.password; lt = text_of p.lt }

@@ -11,4 +11,4 @@ pub returns-in-Some : goal.returns-in-Some
 returns-in-Some c = search spent_found
 
 pub returns-in-None : goal.returns-in-None
-returns-in-None c = search spent_none
+returns-in-None c = search (rules, spent_none)
