@@ -7,11 +7,12 @@ mod script;
 mod shown;
 mod words;
 
+use script::Cases;
 use std::io;
 
 fn main(rt: HostRuntime) -> io::Result<()> {
     let mut script = [0u8; 65536];
-    let register = panels::register();
     let n = lent::read_full(&mut rt.stdin(), &mut script)?;
-    script::run(&mut rt.stdout(), &script[..n], &register)
+    let mut cases = Cases::new(panels::register());
+    cases.run(&mut rt.stdout(), &script[..n])
 }

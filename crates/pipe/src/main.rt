@@ -42,219 +42,99 @@ mod frame_out;
 mod housekeep_frame;
 mod panel_frame;
 mod table_frames;
+mod told;
 mod visit_frame;
-
-ghost use Rattle.std.specs.Prelude.{◌≡◌, ◌<◌, length};
 
 use answer_frame::answer;
 use finish_frame::finish;
 use form_frame::read_form;
-use frame_out::reply_end;
+use frame_out::FrameOut;
 use housekeep_frame::housekeep;
-use lent::{CUT, byte};
+use lent::{Bad, Fields, Kept};
 use panel_frame::panel;
 use std::io;
 use std::io::{Read, Write};
 use table_frames::{check, format, load, read_back, take_register};
 use visit_frame::visit;
 
-// How many bytes table and register have, where the frame out ends, and whether to go on.
-#[derive(Clone, Copy)]
-struct Held {
-    table: u64,
-    register: u64,
-    end: usize,
-    more: bool,
-}
-
-impl Held {
-    fn replied(mut self, end: usize) -> Self {
-        self.end = end;
-        self
-    }
-
-    fn with_table(mut self, table: u64, end: usize) -> Self {
-        self.table = table;
-        self.end = end;
-        self
-    }
-
-    fn with_register(mut self, register: u64, end: usize) -> Self {
-        self.register = register;
-        self.end = end;
-        self
-    }
-}
-
-fn stop(end: usize) -> Held {
-    Held {
-        table: 0,
-        register: 0,
-        end,
-        more: false,
-    }
-}
-
-fn cut(out: &mut [u8; 131072]) -> Held {
-    stop(reply_end(out, b"the frame is cut or too large"))
-}
-
-fn unknown(out: &mut [u8; 131072]) -> Held {
-    stop(reply_end(out, b"the frame is unknown"))
-}
-
 fn main(rt: HostRuntime) -> io::Result<()> {
-    let mut table = [0u8; 65536];
-    let mut old = [0u8; 65536];
-    let mut register = [0u8; 8704];
-    let mut frame = [0u8; 131072];
-    let mut out = [0u8; 131072];
-    run(
-        &mut rt.stdin(),
-        &mut rt.stdout(),
-        &mut table,
-        &mut old,
-        &mut register,
-        &mut frame,
-        &mut out,
-    )
+    let mut table = Kept::new();
+    let mut register = Kept::new();
+    run(&mut rt.stdin(), &mut rt.stdout(), &mut table, &mut register)
 }
 
-fn frames_left(left: u64, more: bool) -> u64
-    requires { 0 < left }
-    ensures { result < left }
-{
-    if more {
-        return left - 1;
+// Reads a frame: None where the input ends before it.
+fn read_frame<'a>(
+    input: &mut impl Read,
+    room: &'a mut [u8; 131072],
+) -> io::Result<Option<Result<&'a [u8], Bad>>> {
+    let mut length = [0u8; 4];
+    let got = lent::read_full(input, &mut length)?;
+    if got == 0 {
+        return Ok(None);
     }
-    0
+    let n = u32::from_le_bytes(length) as usize;
+    if got < 4 || room.len() < n {
+        return Ok(Some(Err(Bad::Cut)));
+    }
+    let got = lent::read_full(input, &mut room[..n])?;
+    if got < n {
+        return Ok(Some(Err(Bad::Cut)));
+    }
+    Ok(Some(Ok(&room[..n])))
 }
 
 // At most 2^40 frames, so that the program ends.
 fn run(
     input: &mut impl Read,
     output: &mut impl Write,
-    table: &mut [u8],
-    old: &mut [u8; 65536],
-    register: &mut [u8; 8704],
-    frame: &mut [u8; 131072],
-    out: &mut [u8; 131072],
-) -> io::Result<()>
-    requires { length table.old ≡ 65536 }
-{
-    let mut held = Held {
-        table: 0,
-        register: 0,
+    table: &mut Kept<65536>,
+    register: &mut Kept<8704>,
+) -> io::Result<()> {
+    let mut room = [0u8; 131072];
+    let mut old = [0u8; 65536];
+    let mut out = FrameOut {
+        bytes: [0; 131072],
         end: 0,
-        more: true,
     };
-    let mut left: u64 = 1099511627776;
-    while 0 < left {
-        held = step(input, output, held, table, old, register, frame, out)?;
-        left = frames_left(left, held.more);
+    for _ in 0..1u64 << 40 {
+        let Some(frame) = read_frame(input, &mut room)? else {
+            return Ok(());
+        };
+        match serve(table, register, &mut old, frame, &mut out) {
+            Ok(()) => out.send(output)?,
+            Err(bad) => {
+                out.reply_bad(bad);
+                return out.send(output);
+            }
+        }
     }
     Ok(())
 }
 
-// What is read of a frame where the input ends before it.
-const NONE: u64 = 8589934592;
-
-// Reads a frame: how many bytes it has, or CUT, or NONE.
-fn read_frame(input: &mut impl Read, frame: &mut [u8]) -> io::Result<u64> {
-    let mut b = [0u8; 4];
-    let got = lent::read_full(input, &mut b)?;
-    if got == 0 {
-        return Ok(NONE);
-    }
-    if got < 4 {
-        return Ok(CUT);
-    }
-    let n = block::get(&b, 0, 4);
-    if lent::lacks(frame, n) {
-        return Ok(CUT);
-    }
-    let end = lent::within(n, frame);
-    let got = lent::read_full(input, &mut frame[..end])?;
-    if got < end {
-        return Ok(CUT);
-    }
-    Ok(n)
-}
-
-// One frame in, one frame out.
-fn step(
-    input: &mut impl Read,
-    output: &mut impl Write,
-    held: Held,
-    table: &mut [u8],
-    old: &mut [u8; 65536],
-    register: &mut [u8; 8704],
-    frame: &mut [u8; 131072],
-    out: &mut [u8; 131072],
-) -> io::Result<Held>
-    requires { length table.old ≡ 65536 }
-{
-    let n = read_frame(input, frame)?;
-    if n == NONE {
-        return Ok(stop(0));
-    }
-    let next = serve(held, table, old, register, lent::part(frame, 0, n), n, out);
-    send(output, out, next)?;
-    Ok(next)
-}
-
-// The frame out, its length before it. It is flushed, since who asked waits for it before asking again. Where it cannot be written, there is
-// nobody to go on for.
-fn send(output: &mut impl Write, out: &mut [u8; 131072], held: Held) -> io::Result<()> {
-    let n = lent::within(held.end as u64, out);
-    let length = lent::part(out, 4, n as u64).len();
-    block::put(out, 0, 4, length as u64);
-    output.write_all(lent::part(out, 0, n as u64))?;
-    output.flush()
-}
-
+// One frame in, one frame out. The old table is the one before a call, against which is told what the call changed.
 fn serve(
-    held: Held,
-    table: &mut [u8],
+    table: &mut Kept<65536>,
+    register: &mut Kept<8704>,
     old: &mut [u8; 65536],
-    register: &mut [u8; 8704],
-    frame: &[u8],
-    n: u64,
-    out: &mut [u8; 131072],
-) -> Held
-    requires { length table.old ≡ 65536 }
-{
-    if (n == CUT) | (n == 0) {
-        return cut(out);
-    }
-    let letter = byte(frame, 0);
-    match letter {
-        b'G' => take_register(held, register, frame, out),
-        b'A' => answer(held, table, old, register, frame, out),
-        b'N' => finish(held, table, old, frame, out),
-        b'K' => housekeep(held, table, old, frame, out),
-        _ => serve_table(letter, held, table, frame, out),
-    }
-}
-
-// The frames that need neither register nor the table before the call.
-fn serve_table(
-    letter: u8,
-    held: Held,
-    table: &mut [u8],
-    frame: &[u8],
-    out: &mut [u8; 131072],
-) -> Held
-    requires { length table.old ≡ 65536 }
-{
-    match letter {
-        b'L' => load(held, table, frame, out),
-        b'F' => format(held, table, frame, out),
-        b'T' => read_back(held, table, frame, out),
-        b'C' => check(held, table, frame, out),
-        b'R' => read_form(held, frame, out),
-        b'B' => panel(held, frame, out),
-        b'V' => visit(held, table, frame, out),
-        _ => unknown(out),
-    }
+    frame: Result<&[u8], Bad>,
+    out: &mut FrameOut,
+) -> Result<(), Bad> {
+    let mut fields = Fields::of(frame?);
+    let letter = fields.byte().ok_or(Bad::Cut)?;
+    let said = match letter {
+        b'B' => panel(fields, out),
+        b'G' => take_register(register, fields, out),
+        b'L' => load(table, fields, out),
+        b'F' => format(table, fields, out),
+        b'T' => read_back(table, fields, out),
+        b'K' => housekeep(table, old, fields, out),
+        b'C' => check(table, fields, out),
+        b'R' => read_form(fields, out),
+        b'A' => answer(table, register, old, fields, out),
+        b'N' => finish(table, old, fields, out),
+        b'V' => visit(table, fields, out),
+        _ => return Err(Bad::Unknown),
+    };
+    said.ok_or(Bad::Cut)
 }

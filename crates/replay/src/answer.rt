@@ -1,80 +1,42 @@
-// The frame of an answer: gathered, the call made on the bytes that it names.
-use super::frame::{gather, gather_text};
+// The frames of an answer and of a callback's outcome: their fields taken, the call made.
+use super::frame::{Stop, flag, gather, long, number, size};
 use super::line::say_outcome;
-use super::{Held, cut};
-use lent::{Asked, Ends};
-use std::io;
+use lent::{Bad, Kept, Request};
 use std::io::{Read, Write};
-
-// The frame behind its letter, put where its fields stand: where it ends, or more than it has room for where it is cut.
-fn gather_answer(input: &mut impl Read, frame: &mut [u8]) -> io::Result<u64> {
-    let head = gather(input, frame, 1, 18)?;
-    let target = gather_text(input, frame, head)?;
-    let body = gather_text(input, frame, target)?;
-    let cookie = gather_text(input, frame, body)?;
-    gather_text(input, frame, cookie)
-}
 
 pub fn answer(
     input: &mut impl Read,
     output: &mut impl Write,
-    held: Held,
-    table: &mut [u8],
-    register: &[u8],
-) -> io::Result<Held> {
-    let mut frame = [0u8; 131072];
-    let end = gather_answer(input, &mut frame)?;
-    let asked = lent::asked_of(&frame);
-    let ends = lent::ends_of(&frame);
-    if lent::lacks(&frame, end) | (16384 < asked.out) | (4096 < asked.cookie_out) {
-        return cut(output);
-    }
-    let n = lent::within(held.table, table);
-    answer_sized(
-        output,
-        &mut table[..n],
-        lent::part(register, 0, held.register),
-        asked,
-        ends,
-        &frame,
-    )?;
-    Ok(held)
-}
-
-fn answer_sized(
-    output: &mut impl Write,
-    table: &mut [u8],
-    register: &[u8],
-    asked: Asked,
-    ends: Ends,
-    frame: &[u8],
-) -> io::Result<()> {
+    table: &mut Kept<70000>,
+    register: &Kept<65536>,
+) -> Result<(), Stop> {
+    let mut room = [0u8; 131071];
+    let fields = gather(input, &mut room, 18, 4)?;
+    let request = Request::read(fields).ok_or(Bad::Cut)?;
     let mut out = [0xEEu8; 16384];
     let mut cookie_out = [0xDDu8; 4096];
-    let o = lent::within(asked.out, &out);
-    let c = lent::within(asked.cookie_out, &cookie_out);
-    answer_call(
-        output,
-        table,
-        register,
-        asked,
-        ends,
-        frame,
-        &mut out[..o],
-        &mut cookie_out[..c],
-    )
+    let out = &mut out[..request.out];
+    let cookie_out = &mut cookie_out[..request.cookie_out];
+    let table = table.bytes_mut();
+    let outcome = request.answer(table, register.bytes(), out, cookie_out);
+    say_outcome(output, 'A', outcome, out, cookie_out, table)?;
+    Ok(())
 }
 
-fn answer_call(
+// Finish gives no cookie.
+pub fn finish(
+    input: &mut impl Read,
     output: &mut impl Write,
-    table: &mut [u8],
-    register: &[u8],
-    asked: Asked,
-    ends: Ends,
-    frame: &[u8],
-    out: &mut [u8],
-    cookie_out: &mut [u8],
-) -> io::Result<()> {
-    let outcome = lent::answer(table, register, asked, ends, frame, out, cookie_out);
-    say_outcome(output, b'A', outcome, out, cookie_out, table)
+    table: &mut Kept<70000>,
+) -> Result<(), Stop> {
+    let serial = number(input)?;
+    let good = flag(input)?;
+    let time = long(input)?;
+    let size = size(input, 16384)?;
+    let mut out = [0xEEu8; 16384];
+    let out = &mut out[..size];
+    let table = table.bytes_mut();
+    let outcome = signon::finish(table, serial, good, time, out);
+    say_outcome(output, 'N', outcome, out, b"", table)?;
+    Ok(())
 }

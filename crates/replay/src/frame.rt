@@ -1,85 +1,122 @@
 // The fields of a frame, read from the input. Where a read fails, a buffer has its length, and its bytes may be others.
-ghost use Rattle.std.specs.Prelude.{◌≡◌, ◌+◌, ◌≤◌, length, IfOk, OnErr};
+ghost use Rattle.std.specs.Prelude.{◌≡◌, ◌+◌, ◌≤◌, length, IfOk};
 
-use lent::{CUT, read_full};
+use lent::{Bad, Fields, read_full};
 use std::io;
 use std::io::Read;
 
-// One byte, or CUT.
-pub fn read_byte(input: &mut impl Read) -> io::Result<u64> {
+// Why no frame is read any more.
+#[derive(Debug, Drop)]
+pub enum Stop {
+    Bad(Bad),
+    Failed(io::Error),
+}
+
+impl From<Bad> for Stop {
+    fn from(bad: Bad) -> Stop {
+        Stop::Bad(bad)
+    }
+}
+
+impl From<io::Error> for Stop {
+    fn from(error: io::Error) -> Stop {
+        Stop::Failed(error)
+    }
+}
+
+// The letter of the next frame, None where the input ends before it.
+pub fn read_letter(input: &mut impl Read) -> io::Result<Option<u8>> {
     let mut b = [0u8; 1];
     let got = read_full(input, &mut b)?;
-    if got < 1 {
-        return Ok(CUT);
-    }
-    Ok(text::wide(b[0]))
+    Ok(if got == 0 { None } else { Some(b[0]) })
 }
 
-// A number of four bytes, or CUT. Where one is cut, every later one is.
-pub fn read_number(input: &mut impl Read) -> io::Result<u64>
-    ensures { IfOk result (λ n. n ≤ 4294967296) }
+// Fills buf: a frame is cut where the input ends before.
+pub fn fill(input: &mut impl Read, buf: &mut [u8]) -> Result<(), Stop> {
+    let got = read_full(input, buf)?;
+    if got < buf.len() {
+        return Err(Stop::Bad(Bad::Cut));
+    }
+    Ok(())
+}
+
+fn array<const N: usize>(input: &mut impl Read) -> Result<[u8; N], Stop> {
+    let mut bytes = [0u8; N];
+    fill(input, &mut bytes)?;
+    Ok(bytes)
+}
+
+pub fn byte(input: &mut impl Read) -> Result<u8, Stop> {
+    let bytes: [u8; 1] = array(input)?;
+    Ok(bytes[0])
+}
+
+// A byte that says yes where it is not 0.
+pub fn flag(input: &mut impl Read) -> Result<bool, Stop> {
+    Ok(byte(input)? != 0)
+}
+
+pub fn number(input: &mut impl Read) -> Result<u32, Stop> {
+    Ok(u32::from_le_bytes(array(input)?))
+}
+
+pub fn long(input: &mut impl Read) -> Result<u64, Stop> {
+    Ok(u64::from_le_bytes(array(input)?))
+}
+
+// A number that is at most so many.
+pub fn size(input: &mut impl Read, most: usize) -> Result<usize, Stop>
+    ensures { IfOk result (λ n. n ≤ most) }
 {
-    let mut b = [0u8; 4];
-    let got = read_full(input, &mut b)?;
-    if got < 4 {
-        return Ok(CUT);
-    }
-    Ok(block::get(&b, 0, 4))
-}
-
-pub fn read_long(input: &mut impl Read) -> io::Result<u64> {
-    let low = read_number(input)?;
-    let high = read_number(input)?;
-    Ok(lent::whole(low, high))
-}
-
-// So many bytes, put at the start of buf: their number, or CUT where there is no room or the input ends.
-fn read_exactly(input: &mut impl Read, buf: &mut [u8], n: u64) -> io::Result<u64>
-    requires { n ≤ 4294967296 }
-    ensures ok { IfOk result (λ got. got ≤ 4294967296) }
-    ensures err { OnErr result (length buf.new ≡ length buf.old) }
-{
-    if lent::lacks(buf, n) {
-        return Ok(CUT);
-    }
-    let end = lent::within(n, buf);
-    let got = read_full(input, &mut buf[..end])?;
-    if got < end {
-        return Ok(CUT);
+    let n = number(input)? as usize;
+    if most < n {
+        return Err(Stop::Bad(Bad::Cut));
     }
     Ok(n)
 }
 
-// A field of bytes, put at the start of buf: how many there are, or CUT.
-pub fn read_bytes(input: &mut impl Read, buf: &mut [u8]) -> io::Result<u64>
-    ensures ok { IfOk result (λ n. n ≤ 4294967296) }
-    ensures err { OnErr result (length buf.new ≡ length buf.old) }
+// A text, put at the start of buf: how many bytes it has.
+pub fn text(input: &mut impl Read, buf: &mut [u8]) -> Result<usize, Stop>
+    ensures { IfOk result (λ n. n ≤ length buf.new) }
 {
-    let n = read_number(input)?;
-    read_exactly(input, buf, n)
+    let n = size(input, buf.len())?;
+    fill(input, &mut buf[..n])?;
+    Ok(n)
 }
 
-// So many bytes of a frame, put behind the first `from` of buf: where they end, or more than buf has where they or what is before them is cut.
-pub fn gather(input: &mut impl Read, buf: &mut [u8], from: u64, n: u64) -> io::Result<u64>
-    requires { (from ≤ 1099511627776) × (n ≤ 4294967296) }
-    ensures ok { IfOk result (λ end. end ≤ from + 4294967296) }
-    ensures err { OnErr result (length buf.new ≡ length buf.old) }
+// So many bytes more of a frame, put behind those before a place: where they end.
+fn gather_bytes(input: &mut impl Read, frame: &mut [u8], at: usize, n: usize) -> Result<usize, Stop>
+    requires { at ≤ length frame.old }
+    ensures { IfOk result (λ end. (end ≡ at + n) × (end ≤ length frame.new)) }
 {
-    if lent::lacks(buf, from) {
-        return Ok(from);
+    if frame.len() - at < n {
+        return Err(Stop::Bad(Bad::Cut));
     }
-    let at = lent::within(from, buf);
-    let got = read_exactly(input, &mut buf[at..], n)?;
-    Ok(from + got)
+    let end = at + n;
+    fill(input, &mut frame[at..end])?;
+    Ok(end)
 }
 
-// A field of bytes with its length before it, in the same way.
-pub fn gather_text(input: &mut impl Read, buf: &mut [u8], from: u64) -> io::Result<u64>
-    requires { from ≤ 549755813888 }
-    ensures ok { IfOk result (λ end. end ≤ from + 8589934592) }
-    ensures err { OnErr result (length buf.new ≡ length buf.old) }
+// A text with its length before it, in the same way.
+fn gather_text(input: &mut impl Read, frame: &mut [u8], at: usize) -> Result<usize, Stop>
+    requires { at ≤ length frame.old }
+    ensures { IfOk result (λ end. end ≤ length frame.new) }
 {
-    let at = gather(input, buf, from, 4)?;
-    let n = lent::number(buf, from);
-    gather(input, buf, at, n)
+    let from = gather_bytes(input, frame, at, 4)?;
+    let n = block::get_u32(frame, at);
+    gather_bytes(input, frame, from, n as usize)
+}
+
+// A frame behind its letter, for which the room has a place less: so many bytes, then so many texts.
+pub fn gather<'a>(
+    input: &mut impl Read,
+    room: &'a mut [u8; 131071],
+    head: usize,
+    texts: usize,
+) -> Result<Fields<'a>, Stop> {
+    let mut end = gather_bytes(input, room, 0, head)?;
+    for _ in 0..texts {
+        end = gather_text(input, room, end)?;
+    }
+    Ok(Fields::of(&room[..end]))
 }

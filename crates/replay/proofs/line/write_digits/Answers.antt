@@ -3,10 +3,10 @@ use Rattle.std.proofs.Common.{◌≡◌, ℕ, ◌≤◌, List, length, arith, ru
 use Rattle.protocol.specs.Bytes.{hex}
 use Rattle.protocol.specs.Written.{Room}
 use Rattle.protocol.proofs.Sizes.{length-hex}
-use Rattle.replay.proofs.line.say_digits.Goals as goal
+use Rattle.replay.proofs.line.write_digits.Goals as goal
 
 digits_fit : (digits bytes : List ℕ) → 512 ≡ length digits → length bytes ≤ 256 → Room digits 0 (hex bytes)
 digits_fit digits bytes n h = record { fits = omega (arith, length-hex bytes) }
 
-pub put_hex-next-requires : goal.put_hex-next-requires
-put_hex-next-requires g c = search (rules, digits_fit)
+pub put_hex-n-requires : goal.put_hex-n-requires
+put_hex-n-requires g c = search (rules, digits_fit)

@@ -1,9 +1,0 @@
--- Each word begins behind the last, within the line.
-use Rattle.std.proofs.Common.{length, ◌≤◌}
-use Rattle.examples.proofs.words.word.Given as goal
-
-abbrev pub invariant-loop-left : goal.invariant-loop-left
-invariant-loop-left l = l.at ≤ length l.line
-
-abbrev pub decreases-loop-left : goal.decreases-loop-left
-decreases-loop-left l = l.left

@@ -1,0 +1,70 @@
+// The fields of a frame, taken one behind the other. Numbers are little-endian; a text has its length before it, a number of four bytes.
+ghost use Rattle.std.specs.Prelude.{◌≡◌, ◌∷◌, [], ◌+◌, ◌<◌, ◌≤◌, length, take, drop, MatchOption, IfSome};
+
+// What is left of a frame. None says that a field is cut: the frame ends within it.
+#[derive(Drop)]
+pub struct Fields<'a> {
+    rest: &'a [u8],
+}
+
+impl<'a> Fields<'a> {
+    pub fn of(frame: &'a [u8]) -> Self
+        ensures { result.rest.now ≡ frame.now }
+    {
+        Fields { rest: frame }
+    }
+
+    pub fn byte(&mut self) -> Option<u8>
+        ensures { MatchOption result (self.old.rest.now ≡ []) (λ b. self.old.rest.now ≡ b ∷ self.new.rest.now) }
+    {
+        let (first, rest) = self.rest.split_first()?;
+        self.rest = rest;
+        Some(*first)
+    }
+
+    // A byte that says yes where it is not 0.
+    pub fn flag(&mut self) -> Option<bool> {
+        Some(self.byte()? != 0)
+    }
+
+    pub fn number(&mut self) -> Option<u32>
+        ensures { MatchOption result (length self.old.rest.now < 4) (λ _. self.new.rest.now ≡ drop 4 self.old.rest.now) }
+    {
+        let (bytes, rest) = self.rest.split_first_chunk()?;
+        self.rest = rest;
+        Some(u32::from_le_bytes(*bytes))
+    }
+
+    pub fn long(&mut self) -> Option<u64>
+        ensures { MatchOption result (length self.old.rest.now < 8) (λ _. self.new.rest.now ≡ drop 8 self.old.rest.now) }
+    {
+        let (bytes, rest) = self.rest.split_first_chunk()?;
+        self.rest = rest;
+        Some(u64::from_le_bytes(*bytes))
+    }
+
+    // A number that is at most so many: None where it is more, too.
+    pub fn size(&mut self, most: usize) -> Option<usize>
+        ensures { IfSome result (λ n. n ≤ most) }
+    {
+        let n = self.number()? as usize;
+        if most < n {
+            return None;
+        }
+        Some(n)
+    }
+
+    pub fn text(&mut self) -> Option<&'a [u8]> {
+        let n = self.number()? as usize;
+        let (text, rest) = self.rest.split_at_checked(n)?;
+        self.rest = rest;
+        Some(text)
+    }
+
+    // That nothing is left over.
+    pub fn end(self) -> Option<()>
+        ensures { MatchOption result (0 < length self.entry.rest.now) (λ _. self.entry.rest.now ≡ []) }
+    {
+        if self.rest.is_empty() { Some(()) } else { None }
+    }
+}
