@@ -8,8 +8,9 @@ use native.Mathlib.Omega.{arith}
 use native.Mathlib.Numerals.{add-one}
 use lib.Dec.{eqb, lit≤}
 use lib.ListN.{length, take, drop, get_or, length-append, length-take, length-drop, length-replicate, drop_of_length-le, get_or-eq_default}
-use lib.Seq.{drop-cons, take_at, drop_at, length-take-le}
+use lib.Seq.{drop-cons, drop-drop, take_at, drop_at, length-take-le}
 use Rattle.std.specs.List.{filter, range_with_len}
+use Rattle.std.specs.Simd.{first_chunks}
 use Rattle.protocol.specs.Bytes.{if, part, num, bytes_of, zeros, pad_to, spliced}
 use Rattle.protocol.specs.Blocks.{house_check, sealed}
 use Rattle.protocol.specs.Records.{Rec, free_rec, rec_body, encode_rec, decode_rec}
@@ -35,12 +36,22 @@ pub read_next : (b : List ℕ) {r : ℕ} → r ≡ num 16 4 b → r ≡ (decode_
 unfolding decode_table
 read_next b e = e
 
-pub block_lent : (t : List ℕ) (k : ℕ) → In k t → Block k t (part (512 * k) (512 * k + 512 - 512 * k) t)
+-- one of the chunks that a text begins with
+chunk_at : (n m k : ℕ) (b d : List ℕ) → k < m → get_or (first_chunks n m b) k d ≡ part (n * k) n b
+chunk_at n zero k b d h = absurd (omega arith)
+chunk_at n (suc m) zero b d h = let e : n * 0 ≡ 0 = omega arith in rw e
+chunk_at n (suc m) (suc k) b d h =
+    let e : n * suc k ≡ n + n * k = omega arith in
+    chunk_at n m k (drop n b) d (omega arith) ∙ rw (drop-drop (n * k) n b, e)
+
+slot_block : (t : List ℕ) (k : ℕ) → In k t → k < length t / 512
+slot_block t k i = omega (arith, i.high)
+
+pub block_lent : (t d : List ℕ) (k : ℕ) {s : List (List ℕ)} → In k t → s ≡ first_chunks 512 (length t / 512) t → Block k t (get_or s k d)
 unfolding decode_rec
-block_lent t k i =
-    let e : 512 * k + 512 - 512 * k ≡ 512 = omega arith in
+block_lent t d k i c =
     let s : decode_rec (part (512 * k) 512 t) ≡ said_at k t = sym (slot_of t k i) in
-    rw e (record {
+    rw (c, chunk_at 512 (length t / 512) k t d (slot_block t k i)) (record {
       is = refl;
       size = length-take-le 512 (drop (512 * k) t) (omega (arith, length-drop (512 * k) t, i.high));
       says = s;
@@ -71,8 +82,8 @@ module _ (t : List ℕ) (k : ℕ) {b : List ℕ} (at : Block k t b) where
   pub text_adds : {n : ℕ} → Fine t → n ≡ num 40 2 b → 44 + n < 18446744073709551616
   text_adds f e = omega (arith, text_short f e)
 
-  pub text_ends : {n : ℕ} → Fine t → n ≡ num 40 2 b → 44 + n ≤ length b
-  text_ends f e = omega (arith, text_short f e, at.size)
+  pub text_ends : {n : ℕ} → Fine t → n ≡ num 40 2 b → 44 + n ≤ 512
+  text_ends f e = omega (arith, text_short f e)
 
   pub read_text : {n : ℕ} → n ≡ num 40 2 b → part 44 (44 + n - 44) b ≡ (said_at k t).text
   read_text {n} e =

@@ -58,8 +58,7 @@ fn since_right(f: Fields, clock: u64) -> bool
 }
 
 // The rest of a short secret is zero, and so is the IOU secret of any kind but a waiting grant.
-fn secrets_right(block: &[u8], kind: u8) -> bool
-    requires { length block.now ≡ 512 }
+fn secrets_right(block: &[u8; 512], kind: u8) -> bool
     ensures { result ≡ secrets_right kind block.now }
 {
     let from = table::AT_SECRET + ticket::secret_length(kind);
@@ -79,8 +78,8 @@ fn letters_right(kind: u8, text: &[u8]) -> bool
 }
 
 // The text's bytes are as its kind has them, those behind it zero.
-fn text_right(block: &[u8], kind: u8, n: usize) -> bool
-    requires { (length block.now ≡ 512) × (n ≤ 200) }
+fn text_right(block: &[u8; 512], kind: u8, n: usize) -> bool
+    requires { n ≤ 200 }
     ensures { result ≡ text_right kind n block.now }
 {
     let to = table::AT_TEXT + n;
@@ -89,8 +88,7 @@ fn text_right(block: &[u8], kind: u8, n: usize) -> bool
 }
 
 // The bytes that have no name are zero.
-fn gaps_zero(block: &[u8]) -> bool
-    requires { length block.now ≡ 512 }
+fn gaps_zero(block: &[u8; 512]) -> bool
     ensures { result ≡ gaps_zero block.now }
 {
     block::all_within(&block[table::END_DEPTH..table::AT_SERIAL], 0, 0)
@@ -100,8 +98,8 @@ fn gaps_zero(block: &[u8]) -> bool
 }
 
 // Does the record that a block says, whose numbers are given, keep its own rules, and are the first 508 bytes those of that record?
-pub fn record_right(block: &[u8], f: Fields, clock: u64, next: u32) -> bool
-    requires { (length block.now ≡ 512) × (f ≡ fields_of (decode_rec block.now)) × (clock ≤ last_time) }
+pub fn record_right(block: &[u8; 512], f: Fields, clock: u64, next: u32) -> bool
+    requires { (f ≡ fields_of (decode_rec block.now)) × (clock ≤ last_time) }
     ensures { result ≡ record_right clock next block.now }
 {
     let n = block::read::<u16>(block, table::AT_LENGTH);

@@ -1,15 +1,14 @@
 -- Limits first; within them the bytes decide.
 use Rattle.block.proofs.Bytewise.{Bytes}
 use Rattle.table_rules.proofs.Laws.{limits_short, record_wrong, record_right_lem}
-use borrow.Author.Rules.{rules}
 use Rattle.table_rules.proofs.record_right.Goals as goal
 
 pub text_right-requires : goal.text_right-requires
-text_right-requires c = (search rules, search limits_short)
+text_right-requires c = search limits_short
 
 pub returns-then-good : goal.returns-then-good
 returns-then-good c =
-    let bytes : Bytes c.args.block.now = record { each = λ i. (c.type_inv.block i).fits } in
+    let bytes : Bytes c.args.block.now = record { each = c.fits-block } in
     search (record_right_lem, bytes)
 
 pub returns : goal.returns
