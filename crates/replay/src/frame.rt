@@ -103,7 +103,7 @@ fn gather_text(input: &mut impl Read, frame: &mut [u8], at: usize) -> Result<usi
     ensures { IfOk result (λ end. end ≤ length frame.new) }
 {
     let from = gather_bytes(input, frame, at, 4)?;
-    let n = block::get_u32(frame, at);
+    let n = block::read::<u32>(frame, at);
     gather_bytes(input, frame, from, n as usize)
 }
 
