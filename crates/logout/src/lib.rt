@@ -2,7 +2,6 @@
 // stands only if url is a registered service.
 #![tactic(auto)]
 
-ghost use Rattle.std.specs.Prelude.{false};
 ghost use Rattle.protocol.specs.Table.{decode_table};
 ghost use Rattle.protocol.specs.Request as read;
 ghost use Rattle.protocol.specs.Steps.{without_session, logout};

@@ -1,13 +1,13 @@
 -- Malformed, or as it is given.
 use borrow.Author.Rules.{rules}
-use Rattle.login_get.proofs.Laws.{get_readable, get_malformed, get_given}
+use Rattle.login_get.proofs.Laws.{get_short, get_malformed, get_answered}
 use Rattle.login_get.proofs.get.Goals as goal
 
 pub get_given-requires : goal.get_given-requires
-get_given-requires c = (search rules, search get_readable)
+get_given-requires c = (search rules, search get_short)
 
-pub returns-in-Malformed : goal.returns-in-Malformed
-returns-in-Malformed c = search get_malformed
+pub returns-in-None : goal.returns-in-None
+returns-in-None c = search get_malformed
 
-pub returns-in-Given : goal.returns-in-Given
-returns-in-Given c = search get_given
+pub returns-in-Some : goal.returns-in-Some
+returns-in-Some c = search get_answered
