@@ -78,18 +78,18 @@ fn is_yes(line: &[u8]) -> bool {
 
 fn format(output: &mut impl Write, line: &[u8], table: [u8; 4608]) -> io::Result<[u8; 4608]> {
     let mut after = table;
-    show_refusal(output, signon::format(&mut after, time_of(line)))?;
+    show_refusal(output, protocol::number_of(signon::format(&mut after, time_of(line))))?;
     Ok(after)
 }
 
 fn check(output: &mut impl Write, table: [u8; 4608]) -> io::Result<[u8; 4608]> {
-    show_refusal(output, signon::check(&table))?;
+    show_refusal(output, protocol::number_of(signon::check(&table)))?;
     Ok(table)
 }
 
 fn housekeep(output: &mut impl Write, line: &[u8], table: [u8; 4608]) -> io::Result<[u8; 4608]> {
     let mut after = table;
-    show_refusal(output, signon::housekeep(&mut after, time_of(line)))?;
+    show_refusal(output, protocol::number_of(signon::housekeep(&mut after, time_of(line))))?;
     Ok(after)
 }
 

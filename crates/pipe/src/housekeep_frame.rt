@@ -42,6 +42,6 @@ fn housekeep_told(
 fn housekeep_call(table: &mut [u8], time: u64, out: &mut [u8; 131072]) -> usize
     ensures { result ≡ 9 }
 {
-    let refusal = signon::housekeep(table, time);
+    let refusal = protocol::number_of(signon::housekeep(table, time));
     put_refusal(out, b'K', refusal)
 }

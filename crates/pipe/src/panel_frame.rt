@@ -21,6 +21,6 @@ pub fn panel(held: Held, frame: &[u8], out: &mut [u8; 131072]) -> Held {
 // A refused panel has no block.
 fn panel_made(service: &[u8], callback: &[u8], out: &mut [u8; 131072]) -> usize {
     let mut block = [0u8; 512];
-    let refusal = signon::panel(service, callback, &mut block);
+    let refusal = protocol::number_of(signon::panel(service, callback, &mut block));
     reply_panel(out, refusal, told_after(refusal, &block))
 }

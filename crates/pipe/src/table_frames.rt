@@ -39,7 +39,7 @@ pub fn load(held: Held, table: &mut [u8], frame: &[u8], out: &mut [u8; 131072]) 
         return cut(out);
     }
     text::put_bytes(table, 0, bytes);
-    let refusal = signon::check(bytes);
+    let refusal = protocol::number_of(signon::check(bytes));
     let end = put_refusal(out, b'L', refusal);
     held.with_table(bytes.len() as u64, end)
 }
@@ -48,7 +48,7 @@ pub fn check(held: Held, table: &[u8], frame: &[u8], out: &mut [u8; 131072]) -> 
     if unfilled(frame, 1) {
         return cut(out);
     }
-    let refusal = signon::check(lent::part(table, 0, held.table));
+    let refusal = protocol::number_of(signon::check(lent::part(table, 0, held.table)));
     let end = put_refusal(out, b'C', refusal);
     held.replied(end)
 }
@@ -83,7 +83,7 @@ fn format_told(table: &mut [u8], v: u8, time: u64, out: &mut [u8; 131072]) -> us
     requires { length table.old ≤ 65536 }
 {
     lent::fill(table, v);
-    let refusal = signon::format(table, time);
+    let refusal = protocol::number_of(signon::format(table, time));
     let at = put_refusal(out, b'F', refusal);
     let told = told_after(refusal, table);
     changed::put_changed(b"", told, out, at)

@@ -192,7 +192,7 @@ fn format(
 
 fn format_call(output: &mut impl Write, table: &mut [u8], v: u8, time: u64) -> io::Result<()> {
     lent::fill(table, v);
-    let refusal = signon::format(table, time);
+    let refusal = protocol::number_of(signon::format(table, time));
     say_table(output, b'F', refusal, table)
 }
 
@@ -202,7 +202,7 @@ fn check(output: &mut impl Write, held: Held, table: &[u8]) -> io::Result<Held> 
 }
 
 fn check_call(output: &mut impl Write, table: &[u8]) -> io::Result<()> {
-    let refusal = signon::check(table);
+    let refusal = protocol::number_of(signon::check(table));
     say_table(output, b'C', refusal, table)
 }
 
@@ -223,7 +223,7 @@ fn housekeep(
 }
 
 fn housekeep_call(output: &mut impl Write, table: &mut [u8], time: u64) -> io::Result<()> {
-    let refusal = signon::housekeep(table, time);
+    let refusal = protocol::number_of(signon::housekeep(table, time));
     say_table(output, b'K', refusal, table)
 }
 
