@@ -2,10 +2,10 @@
 use mathlib.Core.Path.{◌≡◌, refl, sym, ap, ◌∙◌}
 use mathlib.Core.Bool.{Bool, true, false}
 use mathlib.Core.List.{List, [], ◌∷◌}
-use Prim.Native.Nat.{ℕ, suc}
-use native.Mathlib.Omega.{arith}
+use Prim.Native.Nat.{ℕ}
 use borrow.Author.Tests.{eq-eqb, ne_eqb}
-use lib.ListN.{length, set}
+use lib.ListN.{length}
+use Rattle.std.specs.Int.{from_bool}
 use Rattle.protocol.specs.Bytes.{if}
 use Rattle.protocol.specs.Answers.{number_of, data_of}
 use Rattle.protocol.specs.Calls.{inputs, result_of, answer_of, finish_of, FormRead, form_read, form_of}
@@ -18,38 +18,15 @@ use Rattle.protocol.specs.declared.Visit.{Visit}
 use Rattle.protocol.specs.declared.Fault.{Fault}
 use Rattle.export.specs.Numbers.{method_of, outcome_numbers, form_numbers, visit_numbers, fault_numbers, handed, handed_result, answer_handed, finish_handed, handed_visit, visit_handed, handed_form, form_handed, handed_fault, fault_handed}
 
--- values put at the places of a list, from one on
-abbrev put_from : List ℕ → ℕ → List ℕ → List ℕ
-put_from l k [] = l
-put_from l k (v ∷ vs) = put_from (set l k v) (suc k) vs
+-- an outcome's numbers, where kind, flag and data were told
+flag : (b : Bool) → from_bool b ≡ if b 1 0
+flag true = refl
+flag false = refl
 
-behind : (x : ℕ) (l : List ℕ) (k : ℕ) (vs : List ℕ) → put_from (x ∷ l) (suc k) vs ≡ x ∷ put_from l k vs
-behind x l k [] = refl
-behind x l k (v ∷ vs) = behind x (set l k v) (suc k) vs
-
--- a list that was filled is the values
-filled : (l vs : List ℕ) → length l ≡ length vs → put_from l 0 vs ≡ vs
-filled [] [] h = refl
-filled [] (v ∷ vs) h = absurd (omega arith)
-filled (x ∷ l) [] h = absurd (omega arith)
-filled (x ∷ l) (v ∷ vs) h = behind v l 0 vs ∙ ap (λ (r : List ℕ). v ∷ r) (filled l vs (omega arith))
-
-pub outcome_put : (l : List ℕ) (o : Outcome) {k f d : ℕ} → length l ≡ 8 → k ≡ number_of o.answer → f ≡ if o.cookie_cleared 1 0 → d ≡ data_of o.answer
-    → set (set (set (set (set (set (set (set l 0 o.refusal) 1 k) 2 o.status) 3 o.length) 4 o.cookie_length) 5 f) 6 o.callback_serial) 7 d ≡ outcome_numbers o
+pub outcome_put : (l : List ℕ) (o : Outcome) {k f d : ℕ} → k ≡ number_of o.answer → f ≡ from_bool o.cookie_cleared → d ≡ data_of o.answer
+    → l ≡ o.refusal ∷ k ∷ o.status ∷ o.length ∷ o.cookie_length ∷ f ∷ o.callback_serial ∷ d ∷ [] → l ≡ outcome_numbers o
 unfolding outcome_numbers
-outcome_put l o {k} {f} {d} h p q r = filled l (o.refusal ∷ k ∷ o.status ∷ o.length ∷ o.cookie_length ∷ f ∷ o.callback_serial ∷ d ∷ []) h ∙ rw (p, q, r)
-
-pub form_put : (l : List ℕ) (f : Form) → length l ≡ 3 → set (set (set l 0 f.refusal) 1 f.username_length) 2 f.password_length ≡ form_numbers f
-unfolding form_numbers
-form_put l f h = filled l (f.refusal ∷ f.username_length ∷ f.password_length ∷ []) h
-
-pub visit_put : (l : List ℕ) (v : Visit) → length l ≡ 2 → set (set l 0 v.refusal) 1 v.length ≡ visit_numbers v
-unfolding visit_numbers
-visit_put l v h = filled l (v.refusal ∷ v.length ∷ []) h
-
-pub fault-put : (l : List ℕ) (f : Fault) → length l ≡ 2 → set (set l 0 f.refusal) 1 f.block ≡ fault_numbers f
-unfolding fault_numbers
-fault-put l f h = filled l (f.refusal ∷ f.block ∷ []) h
+outcome_put l o {k} {f} {d} p q r e = e ∙ rw (p, q ∙ flag o.cookie_cleared, r)
 
 module _ (l t g : List ℕ) (post : Bool) (u b k : List ℕ) (n : ℕ) (x : List ℕ) (v : Bool) (o c : List ℕ) where
   pub answer_none : (length l ≡ 8 → ⊥) → handed false l t o c ≡ answer_handed l (inputs t g (method_of post) u b k n x v o c)

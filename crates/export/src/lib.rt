@@ -21,18 +21,16 @@ fn put_outcome(o: Outcome, list: &mut [u64])
     requires { length list.old ≡ 8 }
     ensures { list.new ≡ outcome_numbers o }
 {
-    let a = o.answer;
-    let kind = reply::number_of(a);
-    let data = reply::data_of(a);
-    let cleared = reply::flag_of(o.cookie_cleared);
-    list[0] = o.refusal as u64;
-    list[1] = kind as u64;
-    list[2] = o.status as u64;
-    list[3] = o.length as u64;
-    list[4] = o.cookie_length as u64;
-    list[5] = cleared as u64;
-    list[6] = o.callback_serial as u64;
-    list[7] = data as u64;
+    list.copy_from_slice(&[
+        o.refusal as u64,
+        reply::number_of(o.answer) as u64,
+        o.status as u64,
+        o.length as u64,
+        o.cookie_length as u64,
+        u64::from(o.cookie_cleared),
+        o.callback_serial as u64,
+        reply::data_of(o.answer) as u64,
+    ]);
 }
 
 // The three of a form.
@@ -40,9 +38,11 @@ fn put_form(f: Form, list: &mut [u64])
     requires { length list.old ≡ 3 }
     ensures { list.new ≡ form_numbers f }
 {
-    list[0] = f.refusal as u64;
-    list[1] = f.username_length as u64;
-    list[2] = f.password_length as u64;
+    list.copy_from_slice(&[
+        f.refusal as u64,
+        f.username_length as u64,
+        f.password_length as u64,
+    ]);
 }
 
 // The two of a visit.
@@ -50,8 +50,7 @@ fn put_visit(v: Visit, list: &mut [u64])
     requires { length list.old ≡ 2 }
     ensures { list.new ≡ visit_numbers v }
 {
-    list[0] = v.refusal as u64;
-    list[1] = v.length as u64;
+    list.copy_from_slice(&[v.refusal as u64, v.length as u64]);
 }
 
 // The two of a register's check.
@@ -59,26 +58,25 @@ fn put_fault(f: Fault, list: &mut [u64])
     requires { length list.old ≡ 2 }
     ensures { list.new ≡ fault_numbers f }
 {
-    list[0] = f.refusal as u64;
-    list[1] = f.block as u64;
+    list.copy_from_slice(&[f.refusal as u64, f.block as u64]);
 }
 
 pub fn pyhtirso_format(table: &mut [u8], time: u64) -> u32
     ensures { numbered result table.new ≡ format_of table.old time }
 {
-    signon::format(table, time)
+    protocol::number_of(signon::format(table, time))
 }
 
 pub fn pyhtirso_housekeep(table: &mut [u8], time: u64) -> u32
     ensures { numbered result table.new ≡ housekeep_of table.old time }
 {
-    signon::housekeep(table, time)
+    protocol::number_of(signon::housekeep(table, time))
 }
 
 pub fn pyhtirso_check(table: &[u8]) -> u32
     ensures { result ≡ check_of table.now }
 {
-    signon::check(table)
+    protocol::number_of(signon::check(table))
 }
 
 pub fn pyhtirso_read_form(
@@ -170,7 +168,7 @@ pub fn pyhtirso_visit(
 pub fn pyhtirso_panel(service: &[u8], callback: &[u8], block: &mut [u8]) -> u32
     ensures { made result block.new ≡ panel_of service.now callback.now block.old }
 {
-    signon::panel(service, callback, block)
+    protocol::number_of(signon::panel(service, callback, block))
 }
 
 pub fn pyhtirso_check_register(register: &[u8], fault: &mut [u64]) -> bool

@@ -12,7 +12,7 @@ pub fn housekeep(
     let time = fields.long()?;
     fields.end()?;
     told(table.bytes_mut(), old, out, |table, out| {
-        let refusal = signon::housekeep(table, time);
+        let refusal = protocol::number_of(signon::housekeep(table, time));
         out.put_refusal(b'K', refusal);
     });
     Some(())

@@ -22,14 +22,14 @@ pub fn load(table: &mut Kept<65536>, mut fields: Fields, out: &mut FrameOut) -> 
     let bytes = fields.text()?;
     fields.end()?;
     table.load(bytes)?;
-    let refusal = signon::check(bytes);
+    let refusal = protocol::number_of(signon::check(bytes));
     out.put_refusal(b'L', refusal);
     Some(())
 }
 
 pub fn check(table: &Kept<65536>, fields: Fields, out: &mut FrameOut) -> Option<()> {
     fields.end()?;
-    let refusal = signon::check(table.bytes());
+    let refusal = protocol::number_of(signon::check(table.bytes()));
     out.put_refusal(b'C', refusal);
     Some(())
 }
@@ -48,7 +48,7 @@ pub fn format(table: &mut Kept<65536>, mut fields: Fields, out: &mut FrameOut) -
     fields.end()?;
     let table = table.resize(size)?;
     table.fill(v);
-    let refusal = signon::format(table, time);
+    let refusal = protocol::number_of(signon::format(table, time));
     out.put_refusal(b'F', refusal);
     out.end = changed::put_changed(b"", told_after(refusal, table), &mut out.bytes, out.end);
     Some(())

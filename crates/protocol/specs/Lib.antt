@@ -16,6 +16,7 @@ pub mod Steps
 pub mod Calls
 pub mod Visits
 pub mod Panels
+pub mod Refusals
 -- the numbered examples
 pub mod Worked
 -- apart from the meaning: words for the contracts of code below the calls

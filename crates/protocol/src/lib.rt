@@ -2,6 +2,50 @@
 // or checking a register gives. And what a step decides before it acts, and dates, of which meaning and code speak alike.
 #![tactic(auto)]
 
+ghost use Rattle.std.specs.Prelude.{◌≡◌};
+ghost use Rattle.protocol.specs.Refusals.{refusal_number, number_of_result};
+
+// Why a call is refused. Each has the number by which a host is told, and the calls judge them in that order.
+#[derive(Clone, Copy, PartialEq, Eq)]
+pub enum Refusal {
+    // the table is not 9 to 128 whole blocks
+    TableShape = 1,
+    // a block's check is wrong, or a rule of the table is broken
+    Table = 2,
+    // the register, or the entry that a block is to be made of, breaks a rule
+    Register = 3,
+    // a lent buffer or the random input has the wrong size
+    Sizes = 4,
+    // the target or the body is too long
+    TooLong = 5,
+    // the time is too late
+    Time = 6,
+    // the form cannot be read
+    Malformed = 7,
+    // username or password is absent
+    Incomplete = 8,
+    // the session has no visit of that number
+    NoVisit = 9,
+}
+
+impl From<Refusal> for u32 {
+    ghost from_gives = { λ r n. n ≡ refusal_number r };
+
+    fn from(r: Refusal) -> u32 {
+        r as u32
+    }
+}
+
+// The number of a call that was refused, or 0.
+pub fn number_of(done: Result<(), Refusal>) -> u32
+    ensures { result ≡ number_of_result done }
+{
+    match done {
+        Ok(()) => 0,
+        Err(refusal) => refusal.into(),
+    }
+}
+
 #[derive(Clone, Copy)]
 pub enum Method {
     Get,

@@ -1,140 +1,97 @@
-// The refusals of each call, strictly in the order of document 01's list: the first that applies is answered, 0 for none.
+// The refusals of each call, strictly in the order of the list: the first that applies is answered.
 #![tactic(auto)]
 
-ghost use Rattle.std.specs.Prelude.{◌≡◌, leb};
-ghost use Rattle.protocol.specs.Table.{last_time};
+ghost use Rattle.std.specs.Prelude.{◌≡◌};
 ghost use Rattle.protocol.specs.Calls.{unless, sizes_right, request_fits, answer_refusal, finish_refusal, format_refusal, housekeep_refusal, check_of};
 ghost use Rattle.protocol.specs.Visits.{visit_unless};
+ghost use Rattle.protocol.specs.Refusals.{refusal_number, number_of_result};
+
+use protocol::Refusal;
 
 // The latest time, 2^40 seconds.
 const LAST: u64 = 1099511627776;
 
-fn sizes_right(out: usize, cookie: usize, random: usize) -> bool
-    ensures { result ≡ sizes_right out cookie random }
+// A rung of the list: refused where its test fails.
+fn unless(right: bool, refusal: Refusal) -> Result<(), Refusal>
+    ensures { number_of_result result ≡ unless right (refusal_number refusal) 0 }
 {
-    (8192 <= out) & (64 <= cookie) & (random == 48)
+    if right { Ok(()) } else { Err(refusal) }
 }
 
-fn request_fits(target: usize, body: usize) -> bool
-    ensures { result ≡ request_fits target body }
-{
-    (target <= 2048) & (body <= 1024)
+// The lengths of what a request only lends, none of which is read before they are judged.
+#[derive(Clone, Copy)]
+pub struct Sizes {
+    pub target: usize,
+    pub body: usize,
+    pub random: usize,
+    pub out: usize,
+    pub cookie_out: usize,
+}
+
+impl Sizes {
+    fn right(&self) -> bool
+        ensures { result ≡ sizes_right self.now.out self.now.cookie_out self.now.random }
+    {
+        (8192 <= self.out) & (64 <= self.cookie_out) & (self.random == 48)
+    }
+
+    fn request_fits(&self) -> bool
+        ensures { result ≡ request_fits self.now.target self.now.body }
+    {
+        (self.target <= 2048) & (self.body <= 1024)
+    }
 }
 
 // Check: 1, 2, which begin the list of every call that reads a table.
-pub fn of_check(table: &[u8]) -> u32
-    ensures { result ≡ check_of table.now }
+pub fn of_check(table: &[u8]) -> Result<(), Refusal>
+    ensures { number_of_result result ≡ check_of table.now }
 {
-    if table_judge::shape_right(table.len()) {
-        if table_judge::table_lawful(table) {
-            return 0;
-        }
-        return 2;
-    }
-    1
+    unless(table_judge::shape_right(table.len()), Refusal::TableShape)?;
+    unless(table_judge::table_lawful(table), Refusal::Table)
 }
 
-// Numbers 4 to 6.
-fn after_bytes(
-    target: usize,
-    body: usize,
-    time: u64,
-    random: usize,
-    out: usize,
-    cookie: usize,
-) -> u32
-    ensures { result ≡ unless (sizes_right out cookie random) 4 (unless (request_fits target body) 5 (unless (leb time last_time) 6 0)) }
+// Answer: 1 to 6.
+pub fn of_answer(table: &[u8], register: &[u8], time: u64, sizes: Sizes) -> Result<(), Refusal>
+    ensures { number_of_result result
+        ≡ answer_refusal table.now register.now sizes.target sizes.body time sizes.random sizes.out sizes.cookie_out }
 {
-    if sizes_right(out, cookie, random) {
-        if request_fits(target, body) {
-            if time <= LAST {
-                return 0;
-            }
-            return 6;
-        }
-        return 5;
-    }
-    4
-}
-
-// Answer: 1 to 6, by the lengths of what is only measured.
-pub fn of_answer(
-    table: &[u8],
-    register: &[u8],
-    target: usize,
-    body: usize,
-    time: u64,
-    random: usize,
-    out: usize,
-    cookie: usize,
-) -> u32
-    ensures { result ≡ answer_refusal table.now register.now target body time random out cookie }
-{
-    let number = of_check(table);
-    if number != 0 {
-        return number;
-    }
-    if register::register_lawful(register) {
-        return after_bytes(target, body, time, random, out, cookie);
-    }
-    3
-}
-
-// Numbers 4, by a test of the sizes, and 6.
-fn after_table(time: u64, fits: bool) -> u32
-    ensures { result ≡ unless fits 4 (unless (leb time last_time) 6 0) }
-{
-    if fits {
-        if time <= LAST {
-            return 0;
-        }
-        return 6;
-    }
-    4
+    of_check(table)?;
+    unless(register::register_lawful(register), Refusal::Register)?;
+    unless(sizes.right(), Refusal::Sizes)?;
+    unless(sizes.request_fits(), Refusal::TooLong)?;
+    unless(time <= LAST, Refusal::Time)
 }
 
 // Finish: 1, 2, 4 for the output only, 6.
-pub fn of_finish(table: &[u8], time: u64, out: usize) -> u32
-    ensures { result ≡ finish_refusal table.now time out }
+pub fn of_finish(table: &[u8], time: u64, out: usize) -> Result<(), Refusal>
+    ensures { number_of_result result ≡ finish_refusal table.now time out }
 {
-    let number = of_check(table);
-    if number != 0 {
-        return number;
-    }
-    after_table(time, 8192 <= out)
+    of_check(table)?;
+    unless(8192 <= out, Refusal::Sizes)?;
+    unless(time <= LAST, Refusal::Time)
 }
 
 // A visit: 1, 2, 4 for the output and the random input, 6. That there is none of its number is told later.
-pub fn of_visit(table: &[u8], time: u64, random: usize, out: usize) -> u32
-    ensures { result ≡ visit_unless table.now time random out 0 }
+pub fn of_visit(table: &[u8], time: u64, random: usize, out: usize) -> Result<(), Refusal>
+    ensures { number_of_result result ≡ visit_unless table.now time random out 0 }
 {
-    let number = of_check(table);
-    if number != 0 {
-        return number;
-    }
-    after_table(time, (8192 <= out) & (random == 48))
+    of_check(table)?;
+    unless((8192 <= out) & (random == 48), Refusal::Sizes)?;
+    unless(time <= LAST, Refusal::Time)
 }
 
 // Housekeeping: 1, 2, 6.
-pub fn of_housekeep(table: &[u8], time: u64) -> u32
-    ensures { result ≡ housekeep_refusal table.now time }
+pub fn of_housekeep(table: &[u8], time: u64) -> Result<(), Refusal>
+    ensures { number_of_result result ≡ housekeep_refusal table.now time }
 {
-    let number = of_check(table);
-    if number != 0 {
-        return number;
-    }
-    after_table(time, true)
+    of_check(table)?;
+    unless(time <= LAST, Refusal::Time)
 }
 
 // Format: 1, 6.
-pub fn of_format(size: usize, time: u64) -> u32
-    ensures { result ≡ format_refusal size time }
+pub fn of_format(size: usize, time: u64) -> Result<(), Refusal>
+    ensures { number_of_result result ≡ format_refusal size time }
 {
-    if table_judge::shape_right(size) {
-        if time <= LAST {
-            return 0;
-        }
-        return 6;
-    }
-    1
+    unless(table_judge::shape_right(size), Refusal::TableShape)?;
+    unless(time <= LAST, Refusal::Time)
 }

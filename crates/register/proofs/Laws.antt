@@ -5,63 +5,53 @@ use mathlib.Core.List.{List, [], ◌∷◌}
 use Prim.Native.Nat.{ℕ, zero, suc, ◌+◌, ◌-◌, ◌*◌, ◌/◌, ◌≤◌, ◌<◌}
 use native.Mathlib.Nat.{sub-zero, zero-add}
 use native.Mathlib.Omega.{arith}
-use borrow.Author.Tests.{ne_eqb, lt-ltb, ltb-true}
+use borrow.Author.Tests.{eq-eqb, eqb-true, eqb-false, lt-ltb, le-ltb, ltb-true, ltb-false}
 use lib.Dec.{eqb, leb, ltb}
-use lib.ListN.{length, take, drop, length-take, length-drop}
+use lib.Pointwise.{pointwise}
+use lib.ListN.{length, take, drop}
 use lib.Seq.{drop-drop, take_all, length-take-le}
+use Rattle.std.specs.Prelude.{Option, Some, None, is_some, is_none}
+use Rattle.std.specs.List.{starts_with}
 use Rattle.protocol.specs.Bytes.{if, ascii, same, within, all_within, holds, part, blocks}
 use Rattle.protocol.specs.Blocks.{check_right}
 use Rattle.protocol.specs.Register.{Entry, entry_right, decode_entry, decode_register, address_right, register_shape, register_lawful, registered, callback_of}
 use Rattle.protocol.specs.Panels.{entry, panel_right, service_in, at_fault, fault_from, fault, fault_of}
 use Rattle.protocol.specs.declared.Fault.{Fault}
 use Rattle.protocol.proofs.Laws.{one_test, same-eq}
-use Rattle.protocol.proofs.Faults.{behind, said, faults_none, faults_some, fault-refusal}
-use Rattle.text.proofs.Laws.{lengths_differ}
-use Rattle.register.specs.Blockwise.{secure, rest_right, place_of, callback_in}
+use Rattle.protocol.proofs.Faults.{behind, said, faults_none, faults_some}
+use Rattle.register.specs.Blockwise.{secure, rest_right, place_of, callback_in, if_below}
 
 -- `address_right`
 pub address_as : (s : List ℕ) (r h : Bool) → r ≡ all_within 33 126 s → h ≡ holds 35 s → r && not h ≡ address_right s
 unfolding address_right
 address_as s r h e f = rw (e, f)
 
--- `is_secure`: a text of less than 8 bytes is empty or does not begin so
-pub secure-short : (s : List ℕ) → length s < 8 → eqb (length s) 0 ≡ secure s
-unfolding secure
-secure-short [] h = refl
-secure-short (x ∷ s) h =
-    rw (ne_eqb (length (x ∷ s)) 0 (λ e. omega arith)) (lengths_differ (take 8 (x ∷ s)) (ascii "https://") (λ e. let n : length (take 8 (x ∷ s)) ≡ 8 = e in omega (arith, length-take 8 (x ∷ s))))
+-- `is_secure`
+turned : (x y : ℕ) → eqb x y ≡ eqb y x
+turned x y = one_test (eqb x y) (eqb y x) (λ e. eq-eqb y x (sym (eqb-true x y e))) (λ e. eq-eqb x y (sym (eqb-true y x e)))
 
-pub first_eight : (s : List ℕ) → 8 ≤ length s → 8 ≡ length (take 8 s)
-first_eight s h = sym (length-take-le 8 s h)
+same_bytewise : (a b : List ℕ) → pointwise eqb a b ≡ same b a
+unfolding same
+same_bytewise [] [] = refl
+same_bytewise [] (y ∷ b) = refl
+same_bytewise (x ∷ a) [] = refl
+same_bytewise (x ∷ a) (y ∷ b) = rw (turned x y, same_bytewise a b)
 
-pub secure-long : (s : List ℕ) (r : Bool) → 8 ≤ length s → r ≡ same (take 8 s) (ascii "https://") → r ≡ secure s
+pub secure_none : (s : List ℕ) (r : Bool) → r ≡ eqb (length s) 0 → r ≡ true → r ≡ secure s
 unfolding secure
-secure-long [] r h e = absurd (omega arith)
-secure-long (x ∷ s) r h e = e
+secure_none [] r e f = f
+secure_none (x ∷ s) r e f = absurd (omega (arith, eqb-true (length (x ∷ s)) 0 (sym e ∙ f)))
+
+pub secure_some : (s : List ℕ) (r q : Bool) → r ≡ eqb (length s) 0 → r ≡ false → q ≡ starts_with eqb s (ascii "https://") → q ≡ secure s
+unfolding secure
+secure_some [] r q e f h = absurd (omega (arith, eqb-false 0 0 (sym e ∙ f)))
+secure_some (x ∷ s) r q e f h = h ∙ same_bytewise (ascii "https://") (take 8 (x ∷ s))
 
 -- `entry_right`
 pub entry_as : (s c : List ℕ) (a k g : Bool) → a ≡ address_right s → k ≡ address_right c → g ≡ secure c
     → within 1 200 (length s) && leb (length c) 200 && a && k && g ≡ entry_right (entry s c)
 unfolding entry_right secure
 entry_as s c a k g ea ek eg = rw (ea, ek, eg)
-
--- `text_of`: up to its length, or to the end of the block
-module _ (b : List ℕ) (at n k : ℕ) (long : length b ≡ 512) (e : n ≡ k) where
-  pub text_inside : part at (at + n - at) b ≡ part at k b
-  text_inside = let w : at + n - at ≡ n = omega arith in rw (w, e)
-
-  pub text_cut : 512 ≤ at + n → part at (length b - at) b ≡ part at k b
-  text_cut h = take_all (length b - at) (drop at b) (omega (arith, length-drop at b)) ∙ sym (take_all k (drop at b) (omega (arith, length-drop at b)))
-
--- `service_at`
-pub service_there : (b v : List ℕ) (k : ℕ) → v ≡ (decode_entry (part (512 * k) (512 * k + 512 - 512 * k) b)).service → v ≡ service_in b k
-unfolding service_in
-service_there b v k e = let w : 512 * k + 512 - 512 * k ≡ 512 = omega arith in e ∙ ap (λ (i : ℕ). (decode_entry (part (512 * k) i b)).service) w
-
--- `callback_at`
-pub callback_there : (b v : List ℕ) (k : ℕ) → v ≡ (decode_entry (part (512 * k) (512 * k + 512 - 512 * k) b)).callback → v ≡ callback_in b k
-unfolding callback_in
-callback_there b v k e = let w : 512 * k + 512 - 512 * k ≡ 512 = omega arith in e ∙ ap (λ (i : ℕ). (decode_entry (part (512 * k) i b)).callback) w
 
 -- `rest_right`: the parts as the code has them
 module _ (b : List ℕ) (n m : ℕ) (long : length b ≡ 512) (short : n ≤ 200) (brief : m ≤ 200) where
@@ -73,6 +63,46 @@ module _ (b : List ℕ) (n m : ℕ) (long : length b ≡ 512) (short : n ≤ 200
       let p : 204 - (4 + n) ≡ 200 - n = omega arith in
       let q : 508 - (204 + m) ≡ 304 - m = omega arith in
       rw (ec, ez, ey, whole, p, q)
+
+-- a place, or none
+pub some_below : (n p k : ℕ) → k ≡ p → k < n → Some k ≡ if_below n p
+unfolding if_below
+some_below n p k e h = rw (← e, lt-ltb k n h)
+
+pub none_below : (n p : ℕ) → n ≤ p → None ≡ if_below n p
+unfolding if_below
+none_below n p h = rw (le-ltb p n h)
+
+-- what a place, or none, says
+abbrev place_size : Option ℕ → ℕ
+place_size None = 0
+place_size (Some k) = suc k
+
+module _ (n p : ℕ) where
+  below_some : (k : ℕ) → Some k ≡ if_below n p → (k ≡ p) × (p < n)
+  unfolding if_below
+  below_some k e = go (ltb p n) refl e
+    where
+      go : (x : Bool) → ltb p n ≡ x → Some k ≡ if x (Some p) None → (k ≡ p) × (p < n)
+      go true q h = let w : suc k ≡ suc p = ap place_size h in (omega arith, ltb-true p n q)
+      go false q h = let w : suc k ≡ 0 = ap place_size h in absurd (omega arith)
+
+  below_none : None ≡ if_below n p → n ≤ p
+  unfolding if_below
+  below_none e = go (ltb p n) refl e
+    where
+      go : (x : Bool) → ltb p n ≡ x → None ≡ if x (Some p) None → n ≤ p
+      go true q h = let w : 0 ≡ suc p = ap place_size h in absurd (omega arith)
+      go false q h = ltb-false p n q
+
+  -- whether there is a place
+  below_is : (o : Option ℕ) → o ≡ if_below n p → is_some o ≡ ltb p n
+  unfolding if_below
+  below_is o e = ap is_some e ∙ go (ltb p n)
+    where
+      go : (x : Bool) → is_some (if x (Some p) None) ≡ x
+      go true = refl
+      go false = refl
 
 -- `place_of`: the entries from block k on
 abbrev left : ℕ → ℕ → List ℕ → List Entry
@@ -105,6 +135,9 @@ module _ (s b : List ℕ) (m k : ℕ) (l : Looking s b m k) where
   unfolding place_of
   look_none h = let e : place_of s (left m k b) ≡ 0 = ap (place_of s) (left_none m k b h) in omega (arith, l.high, l.place)
 
+  pub look_nowhere : m ≤ k → None ≡ if_below (length b / 512) (place_of s (decode_register b))
+  look_nowhere h = none_below (length b / 512) (place_of s (decode_register b)) (omega (arith, l.count, look_none h))
+
   pub look_inside : k < m → 512 * k + 512 ≤ length b
   look_inside h = omega (arith, l.count)
 
@@ -115,6 +148,9 @@ module _ (s b : List ℕ) (m k : ℕ) (l : Looking s b m k) where
 
     pub look_hit : r ≡ true → k ≡ place_of s (decode_register b)
     look_hit f = omega (arith, rw f at here)
+
+    pub look_some : r ≡ true → Some k ≡ if_below (length b / 512) (place_of s (decode_register b))
+    look_some f = some_below (length b / 512) (place_of s (decode_register b)) k (look_hit f) (omega (arith, l.count))
 
     pub look-next : r ≡ false → Looking s b m (k + 1)
     look-next f = record { count = l.count; high = omega arith; place = omega (arith, rw f at here) }
@@ -197,15 +233,23 @@ module _ (s b : List ℕ) (p : ℕ) (e : p ≡ place_of s (decode_register b)) w
   unfolding decode_register service_in
   service_found h = same-eq s (decode_entry (part (512 * p) 512 b)).service (service_place s (length b / 512) b p e h)
 
+-- `block_at`
+pub block_part : (b : List ℕ) (k : ℕ) → part (512 * k) (512 * k + 512 - 512 * k) b ≡ part (512 * k) 512 b
+block_part b k = let w : 512 * k + 512 - 512 * k ≡ 512 = omega arith in rw w
+
+-- `registered`
+pub registered_some : (s b : List ℕ) (o : Option ℕ) → o ≡ if_below (length b / 512) (place_of s (decode_register b)) → is_some o ≡ registered s (decode_register b)
+registered_some s b o e = below_is (length b / 512) (place_of s (decode_register b)) o e ∙ stands s b (place_of s (decode_register b)) refl
+
 -- `at_fault`
 pub blocks_before : (b : List ℕ) (k : ℕ) → 512 * k + 512 ≤ length b → 512 * k ≡ length (take (512 * k) b)
 blocks_before b k h = sym (length-take-le (512 * k) b (omega arith))
 
-module _ (b : List ℕ) (k : ℕ) (q : Bool) (eq : q ≡ panel_right (part (512 * k) (512 * k + 512 - 512 * k) b)) where
+module _ (b t : List ℕ) (k : ℕ) (et : t ≡ part (512 * k) 512 b) (q : Bool) (eq : q ≡ panel_right t) where
   this : panel_right (part (512 * k) 512 b) ≡ q
-  this = let w : 512 * k + 512 - 512 * k ≡ 512 = omega arith in sym (eq ∙ ap (λ (i : ℕ). panel_right (part (512 * k) i b)) w)
+  this = sym (eq ∙ rw et)
 
-  pub fault_wrong : q ≡ false → true ≡ at_fault b k
+  pub fault_wrong : q ≡ false → not q ≡ at_fault b k
   unfolding at_fault
   fault_wrong f = rw (this, f)
 
@@ -223,12 +267,12 @@ pub seek_start : (b : List ℕ) (m : ℕ) → m ≡ length b / 512 → Seeking b
 seek_start b m e = record { count = e; high = omega arith; first = rw (sub-zero m, e) }
 
 module _ (b : List ℕ) (m k : ℕ) (l : Seeking b m k) where
-  pub seek_none : m ≤ k → m ≡ fault_from 0 (length b / 512) b
+  pub seek_none : m ≤ k → None ≡ if_below (length b / 512) (fault_from 0 (length b / 512) b)
   unfolding fault_from
   seek_none h =
       let z : m - k ≡ 0 = omega arith in
       let q : k ≡ fault_from 0 (length b / 512) b = sym (ap (λ (i : ℕ). fault_from k i b) z) ∙ l.first in
-      omega (arith, l.high)
+      none_below (length b / 512) (fault_from 0 (length b / 512) b) (omega (arith, l.high, l.count))
 
   pub seek_inside : k < m → 512 * k + 512 ≤ length b
   seek_inside h = omega (arith, l.count)
@@ -238,31 +282,36 @@ module _ (b : List ℕ) (m k : ℕ) (l : Seeking b m k) where
     unfolding fault_from
     turn = let n : m - k ≡ suc (m - (k + 1)) = omega arith in sym (sym l.first ∙ ap (λ (i : ℕ). fault_from k i b) n ∙ rw (← e))
 
-    pub seek_hit : r ≡ true → k ≡ fault_from 0 (length b / 512) b
-    seek_hit f = rw f at turn
+    pub seek_hit : r ≡ true → Some k ≡ if_below (length b / 512) (fault_from 0 (length b / 512) b)
+    seek_hit f = some_below (length b / 512) (fault_from 0 (length b / 512) b) k (rw f at turn) (omega (arith, l.count))
 
     pub seek_next : r ≡ false → Seeking b m (k + 1)
     seek_next f = record { count = l.count; high = omega arith; first = rw f at turn }
 
--- `check`
+-- `check` and `register_lawful`
 module _ (b : List ℕ) (s : Bool) (es : s ≡ register_shape (length b)) where
-  pub check_shape : s ≡ false → fault 3 0 ≡ fault_of b
+  pub check_shape : {f : Fault} → s ≡ false → f ≡ fault 3 0 → f ≡ fault_of b
   unfolding fault_of register_lawful
-  check_shape f = rw (← es, f)
+  check_shape q e = e ∙ rw (← es, q)
 
-  module _ (f : s ≡ true) (k : ℕ) (e : k ≡ fault_from 0 (length b / 512) b) where
-    pub check_fault : k < length b / 512 → fault 3 k ≡ fault_of b
+  pub unlawful_shape : s ≡ false → s ≡ register_lawful b
+  unfolding register_lawful
+  unlawful_shape f = rw (← es, f)
+
+  module _ (f : s ≡ true) (o : Option ℕ) (e : o ≡ if_below (length b / 512) (fault_from 0 (length b / 512) b)) where
+    pub check_fault : (k : ℕ) {y : Fault} → o ≡ Some k → y ≡ fault 3 k → y ≡ fault_of b
     unfolding fault_of
-    check_fault h = rw (← es, f, ← e, faults_some b (sym es ∙ f) (rw e at h))
+    check_fault k q g =
+        let p = below_some (length b / 512) (fault_from 0 (length b / 512) b) k (sym q ∙ e) in
+        g ∙ rw (← es, f, p.0, faults_some b (sym es ∙ f) p.1)
 
-    pub check_none : length b / 512 ≤ k → fault 0 0 ≡ fault_of b
+    pub check_none : o ≡ None → fault 0 0 ≡ fault_of b
     unfolding fault_of
-    check_none h = rw (faults_none b (sym es ∙ f) (rw e at h))
+    check_none q = rw (faults_none b (sym es ∙ f) (below_none (length b / 512) (fault_from 0 (length b / 512) b) (sym q ∙ e)))
 
--- `register_lawful`
-pub lawful_as : (b : List ℕ) (r : Fault) → r ≡ fault_of b → eqb r.refusal 0 ≡ register_lawful b
-lawful_as b r e = ap (λ (x : Fault). eqb x.refusal 0) e ∙ rw (fault-refusal b) (go (register_lawful b))
-  where
-    go : (x : Bool) → eqb (if x 0 3) 0 ≡ x
-    go true = refl
-    go false = refl
+    pub lawful_none : {r : Bool} → r ≡ is_none o → r ≡ register_lawful b
+    lawful_none h = h ∙ go o e
+      where
+        go : (x : Option ℕ) → x ≡ if_below (length b / 512) (fault_from 0 (length b / 512) b) → is_none x ≡ register_lawful b
+        go None h = sym (faults_none b (sym es ∙ f) (below_none (length b / 512) (fault_from 0 (length b / 512) b) h))
+        go (Some k) h = sym (faults_some b (sym es ∙ f) (below_some (length b / 512) (fault_from 0 (length b / 512) b) k h).1)

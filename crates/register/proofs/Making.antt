@@ -7,10 +7,15 @@ use native.Mathlib.Omega.{arith}
 use borrow.Author.Tests.{eq-eqb, ne_eqb}
 use lib.Dec.{lit≤}
 use lib.ListN.{length, take}
+use Rattle.std.specs.Prelude.{Result}
+use Rattle.std.specs.Result.{IsErrAnd}
+use Rattle.protocol.specs.declared.Refusal.{Refusal}
+use Rattle.protocol.specs.Refusals.{refusal_number, number_of_result}
 use Rattle.protocol.specs.Bytes.{pad_to, bytes_of, spliced}
 use Rattle.protocol.specs.Blocks.{sealed}
 use Rattle.protocol.specs.Register.{entry_body, encode_entry, entry_right}
 use Rattle.protocol.specs.Panels.{entry, panel_refusal, made, panel_of}
+use Rattle.protocol.proofs.Refusals.{refused_some, handed}
 use Rattle.protocol.proofs.Laws.{length_bytes, length_pad}
 use Rattle.protocol.proofs.Panels.{right_short}
 use Rattle.protocol.proofs.Faults.{panel_passed}
@@ -47,21 +52,21 @@ entry_filled s c b g hs hc e5 e4 e3 e2 e1 =
     e5 ∙ ap sealed (front p4 ∙ simp append_assoc)
 
 -- `panel`
-module _ (s c b : List ℕ) {x : ℕ} (e : x ≡ panel_refusal s c (length b)) where
-  pub panel_refused : (x ≡ 0 → ⊥) → made x b ≡ panel_of s c b
+module _ (s c b : List ℕ) where
+  pub panel_refused : (r : Result Unit Refusal) (e : Refusal) → IsErrAnd r (λ y. y ≡ e) → refusal_number e ≡ panel_refusal s c (length b) → made (number_of_result r) b ≡ panel_of s c b
   unfolding panel_of
-  panel_refused h = rw (← e, ne_eqb x 0 h)
+  panel_refused r e is h = rw (← h, ne_eqb (refusal_number e) 0 (refused_some e), handed r e is)
 
-  module _ (z : x ≡ 0) where
+  module _ (e : 0 ≡ panel_refusal s c (length b)) where
     pub panel_done : {b' : List ℕ} → b' ≡ encode_entry (entry s c) → made 0 b' ≡ panel_of s c b
     unfolding panel_of
-    panel_done q = rw (← e, eq-eqb x 0 z, q)
+    panel_done q = rw (← e, q)
 
     pub panel_block : length b ≡ 512
-    panel_block = (panel_passed s c b (sym e ∙ z)).1
+    panel_block = (panel_passed s c b (sym e)).1
 
     pub panel_service : length s ≤ 200
-    panel_service = (right_short (entry s c) (panel_passed s c b (sym e ∙ z)).0).service
+    panel_service = (right_short (entry s c) (panel_passed s c b (sym e)).0).service
 
     pub panel_callback : length c ≤ 200
-    panel_callback = (right_short (entry s c) (panel_passed s c b (sym e ∙ z)).0).callback
+    panel_callback = (right_short (entry s c) (panel_passed s c b (sym e)).0).callback

@@ -1,5 +1,5 @@
 -- What the code of the register computes on the way: the rest of a block beside its two texts, and where a service stands.
-use Rattle.std.specs.Prelude.{Bool, true, ◌&&◌, List, [], ◌∷◌, ℕ, suc, ◌+◌, ◌-◌, ◌*◌, take}
+use Rattle.std.specs.Prelude.{Bool, true, ◌&&◌, List, [], ◌∷◌, Option, Some, None, ℕ, suc, ◌+◌, ◌-◌, ◌*◌, ltb, take}
 use Rattle.protocol.specs.Bytes.{if, ascii, is_empty, same, all_within, part}
 use Rattle.protocol.specs.Blocks.{check_right}
 use Rattle.protocol.specs.Register.{Entry, decode_entry}
@@ -20,3 +20,7 @@ place_of s (e ∷ es) = if (same s e.service) 0 (suc (place_of s es))
 -- the callback that block k says, the first block being 0
 unfoldable pub callback_in : List ℕ → ℕ → List ℕ
 callback_in b k = (decode_entry (part (512 * k) 512 b)).callback
+
+-- a place among n; none where it is beyond them
+unfoldable pub if_below : ℕ → ℕ → Option ℕ
+if_below n p = if (ltb p n) (Some p) None

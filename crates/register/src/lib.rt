@@ -7,10 +7,11 @@ ghost use Rattle.std.specs.Prelude.{◌≡◌, ◌+◌, ◌*◌, ◌/◌, ◌≤
 ghost use Rattle.protocol.specs.Bytes.{num, part};
 ghost use Rattle.protocol.specs.Register.{address_right, entry_right, encode_entry, decode_entry, decode_register};
 ghost use Rattle.protocol.specs.Register.{register_shape, register_lawful, registered};
-ghost use Rattle.protocol.specs.Panels.{entry, panel_refusal, made, panel_of, panel_right, service_in, at_fault, fault_from, fault_of};
-ghost use Rattle.register.specs.Blockwise.{secure, rest_right, place_of, callback_in};
+ghost use Rattle.protocol.specs.Panels.{entry, panel_refusal, made, panel_of, panel_right, service_in, at_fault, fault_from, fault, fault_of};
+ghost use Rattle.register.specs.Blockwise.{secure, rest_right, place_of, callback_in, if_below};
+ghost use Rattle.protocol.specs.Refusals.{number_of_result};
 
-use protocol::Fault;
+use protocol::{Fault, Refusal};
 
 // ---- the rules of an entry
 
@@ -25,10 +26,7 @@ fn address_right(s: &[u8]) -> bool
 fn is_secure(s: &[u8]) -> bool
     ensures { result ≡ secure s.now }
 {
-    if s.len() < 8 {
-        return s.len() == 0;
-    }
-    text::same(&s[..8], b"https://")
+    s.is_empty() || s.starts_with(b"https://")
 }
 
 // A service of 1 to 200 bytes, a callback of at most 200.
@@ -49,12 +47,8 @@ fn text_of<'a>(b: &'a [u8], field: usize, at: usize) -> &'a [u8]
     requires { (length b.now ≡ 512) × (field ≤ 2) × (at ≤ 204) }
     ensures { result.now ≡ part at (num field 2 b.now) b.now }
 {
-    let n = block::read::<u16>(b, field) as usize;
-    let to = at + n;
-    if to < 512 {
-        return &b[at..to];
-    }
-    &b[at..]
+    let to = at + usize::from(block::read::<u16>(b, field));
+    &b[at..to.min(512)]
 }
 
 fn service_of<'a>(b: &'a [u8]) -> &'a [u8]
@@ -89,22 +83,27 @@ fn block_right(b: &[u8]) -> bool
 {
     let service = service_of(b);
     let callback = callback_in(b);
-    if entry_right(service, callback) {
-        return rest_right(b, service.len(), callback.len());
-    }
-    false
+    entry_right(service, callback) && rest_right(b, service.len(), callback.len())
 }
 
 // ---- services
+
+// Block k, where it stands.
+fn block_at<'a>(b: &'a [u8], k: usize) -> &'a [u8]
+    requires { 512 * k + 512 ≤ length b.now }
+    ensures whole { length result.now ≡ 512 }
+    ensures stands { result.now ≡ part (512 * k) 512 b.now }
+{
+    let from = 512 * k;
+    &b[from..from + 512]
+}
 
 // The service of block k, where it stands.
 pub fn service_at<'a>(b: &'a [u8], k: usize) -> &'a [u8]
     requires { 512 * k + 512 ≤ length b.now }
     ensures { result.now ≡ service_in b.now k }
 {
-    let from = 512 * k;
-    let to = from + 512;
-    service_of(&b[from..to])
+    service_of(block_at(b, k))
 }
 
 // And its callback.
@@ -112,30 +111,26 @@ pub fn callback_at<'a>(b: &'a [u8], k: usize) -> &'a [u8]
     requires { 512 * k + 512 ≤ length b.now }
     ensures { result.now ≡ callback_in b.now k }
 {
-    let from = 512 * k;
-    let to = from + 512;
-    callback_in(&b[from..to])
+    callback_in(block_at(b, k))
 }
 
-// The first block that has a service; the count of blocks where none has.
-fn place_of(b: &[u8], service: &[u8]) -> usize
-    ensures { result ≡ place_of service.now (decode_register b.now) }
+// The first block that has a service.
+fn place_of(b: &[u8], service: &[u8]) -> Option<usize>
+    ensures { result ≡ if_below (length b.now / 512) (place_of service.now (decode_register b.now)) }
 {
     let m = b.len() / 512;
-    let mut k = 0;
-    while k < m {
+    for k in 0..m {
         if text::same(service, service_at(b, k)) {
-            return k;
+            return Some(k);
         }
-        k += 1;
     }
-    m
+    None
 }
 
 fn registered(b: &[u8], service: &[u8]) -> bool
     ensures { result ≡ registered service.now (decode_register b.now) }
 {
-    place_of(b, service) < b.len() / 512
+    place_of(b, service).is_some()
 }
 
 // ---- the judge
@@ -144,27 +139,20 @@ fn at_fault(b: &[u8], k: usize) -> bool
     requires { 512 * k + 512 ≤ length b.now }
     ensures { result ≡ at_fault b.now k }
 {
-    let from = 512 * k;
-    let to = from + 512;
-    if block_right(&b[from..to]) {
-        return registered(&b[..from], service_at(b, k));
-    }
-    true
+    !block_right(block_at(b, k)) || registered(&b[..512 * k], service_at(b, k))
 }
 
-// The first block at fault; the count of blocks where none is.
-fn first_fault(b: &[u8]) -> usize
-    ensures { result ≡ fault_from 0 (length b.now / 512) b.now }
+// The first block at fault.
+fn first_fault(b: &[u8]) -> Option<usize>
+    ensures { result ≡ if_below (length b.now / 512) (fault_from 0 (length b.now / 512) b.now) }
 {
     let m = b.len() / 512;
-    let mut k = 0;
-    while k < m {
+    for k in 0..m {
         if at_fault(b, k) {
-            return k;
+            return Some(k);
         }
-        k += 1;
     }
-    m
+    None
 }
 
 fn shape_right(n: usize) -> bool
@@ -173,44 +161,50 @@ fn shape_right(n: usize) -> bool
     (n % 512 == 0) & ((1 <= n / 512) & (n / 512 <= 16))
 }
 
+// A register at fault, refused with its block.
+fn faulty(block: usize) -> Fault
+    ensures { result ≡ fault 3 block }
+{
+    Fault {
+        refusal: Refusal::Register.into(),
+        block,
+    }
+}
+
 // The refusal of a register, 3 or 0, and its first block at fault.
 pub fn check(b: &[u8]) -> Fault
     ensures { result ≡ fault_of b.now }
 {
-    if shape_right(b.len()) {
-        let block = first_fault(b);
-        if block < b.len() / 512 {
-            return Fault { refusal: 3, block };
-        }
-        return Fault {
+    if !shape_right(b.len()) {
+        return faulty(0);
+    }
+    match first_fault(b) {
+        Some(block) => faulty(block),
+        None => Fault {
             refusal: 0,
             block: 0,
-        };
-    }
-    Fault {
-        refusal: 3,
-        block: 0,
+        },
     }
 }
 
 pub fn register_lawful(b: &[u8]) -> bool
     ensures { result ≡ register_lawful b.now }
 {
-    check(b).refusal == 0
+    shape_right(b.len()) && first_fault(b).is_none()
 }
 
 // ---- a block made
 
-fn panel_refusal(service: &[u8], callback: &[u8], size: usize) -> u32
-    ensures { result ≡ panel_refusal service.now callback.now size }
+fn panel_refusal(service: &[u8], callback: &[u8], size: usize) -> Result<(), Refusal>
+    ensures { number_of_result result ≡ panel_refusal service.now callback.now size }
 {
-    if entry_right(service, callback) {
-        if size == 512 {
-            return 0;
-        }
-        return 4;
+    if !entry_right(service, callback) {
+        return Err(Refusal::Register);
     }
-    3
+    if size != 512 {
+        return Err(Refusal::Sizes);
+    }
+    Ok(())
 }
 
 fn put_entry(b: &mut [u8], service: &[u8], callback: &[u8])
@@ -224,14 +218,11 @@ fn put_entry(b: &mut [u8], service: &[u8], callback: &[u8])
     block::seal(b);
 }
 
-// The block of a service and a callback: its refusal, 3 or 4, else 0.
-pub fn panel(service: &[u8], callback: &[u8], block: &mut [u8]) -> u32
-    ensures { made result block.new ≡ panel_of service.now callback.now block.old }
+// The block of a service and a callback. Refused with 3 or 4.
+pub fn panel(service: &[u8], callback: &[u8], block: &mut [u8]) -> Result<(), Refusal>
+    ensures { made (number_of_result result) block.new ≡ panel_of service.now callback.now block.old }
 {
-    let number = panel_refusal(service, callback, block.len());
-    if number != 0 {
-        return number;
-    }
+    panel_refusal(service, callback, block.len())?;
     put_entry(block, service, callback);
-    0
+    Ok(())
 }

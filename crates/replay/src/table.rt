@@ -28,14 +28,14 @@ pub fn format(
     let time = long(input)?;
     let table = table.resize(size).ok_or(Bad::Cut)?;
     table.fill(v);
-    let refusal = signon::format(table, time);
+    let refusal = protocol::number_of(signon::format(table, time));
     say_table(output, 'F', refusal, table)?;
     Ok(())
 }
 
 pub fn check(output: &mut impl Write, table: &Kept<70000>) -> Result<(), Stop> {
     let table = table.bytes();
-    let refusal = signon::check(table);
+    let refusal = protocol::number_of(signon::check(table));
     say_table(output, 'C', refusal, table)?;
     Ok(())
 }
@@ -47,7 +47,7 @@ pub fn housekeep(
 ) -> Result<(), Stop> {
     let time = long(input)?;
     let table = table.bytes_mut();
-    let refusal = signon::housekeep(table, time);
+    let refusal = protocol::number_of(signon::housekeep(table, time));
     say_table(output, 'K', refusal, table)?;
     Ok(())
 }

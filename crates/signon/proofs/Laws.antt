@@ -1,12 +1,16 @@
 -- The calls: refused with nothing written, or answered on the table after the clock. Assumes nothing.
-use mathlib.Core.Path.{◌≡◌, sym, ap, ◌∙◌}
+use mathlib.Core.Path.{◌≡◌, refl, sym, ap, ◌∙◌}
 use mathlib.Core.Bool.{Bool, true, false, ◌&&◌}
 use mathlib.Core.List.{List, []}
 use Prim.Native.Nat.{ℕ, ◌-◌, ◌/◌, ◌≤◌}
 use native.Mathlib.Omega.{arith}
-use borrow.Author.Tests.{eq-eqb, ne_eqb, eqb-true, leb-true}
+use borrow.Author.Tests.{ne_eqb, eqb-true, leb-true}
 use lib.Dec.{eqb, leb}
 use lib.ListN.{length}
+use Rattle.std.specs.Prelude.{Result}
+use Rattle.std.specs.Result.{IsErrAnd}
+use Rattle.protocol.specs.declared.Refusal.{Refusal}
+use Rattle.protocol.specs.Refusals.{refusal_number, number_of_result}
 use Rattle.protocol.specs.Table.{encode_table, decode_table, table_shape, table_lawful, last_time, formatted}
 use Rattle.protocol.specs.Request.{request_of}
 use Rattle.protocol.specs.Steps.{tick, clear, request_step, finish}
@@ -21,7 +25,8 @@ use Rattle.protocol.proofs.Sound.{sound_lawful, tick_sound}
 use Rattle.protocol.proofs.Held.{sound_held, holds_bytes}
 use Rattle.protocol.proofs.Told.{done_did, did_delivered}
 use Rattle.protocol.proofs.Lasting.{passes, Passed}
-use Rattle.protocol.proofs.Top.{top_passed}
+use Rattle.protocol.proofs.Top.{top_refused, top_passed}
+use Rattle.protocol.proofs.Refusals.{refused_some, handed}
 use Rattle.table_judge.proofs.Worth.{shaped, lawful_law}
 use Rattle.table_edit.specs.Edits.{Shape}
 
@@ -32,37 +37,38 @@ clock_lawful b {b'} n l h k =
     record { fine = k.fine; rules = lawful_rules b' e }
 
 -- format
-module _ (t : List ℕ) (n : ℕ) {x : ℕ} (e : x ≡ format_refusal (length t) n) where
-  pub format_refused : (x ≡ 0 → ⊥) → numbered x t ≡ format_of t n
+module _ (t : List ℕ) (n : ℕ) where
+  pub format_refused : (r : Result Unit Refusal) (f : Refusal) → IsErrAnd r (λ y. y ≡ f) → refusal_number f ≡ format_refusal (length t) n → numbered (number_of_result r) t ≡ format_of t n
   unfolding format_of
-  format_refused h = rw (← e, ne_eqb x 0 h)
+  format_refused r f is h = rw (handed r f is, ← h, ne_eqb (refusal_number f) 0 (refused_some f))
 
-  pub format_done : {t' : List ℕ} → x ≡ 0 → t' ≡ encode_table (formatted (length t / 512 - 1) n) → numbered 0 t' ≡ format_of t n
-  unfolding format_of
-  format_done z k = rw (← e, eq-eqb x 0 z, k)
+  module _ (e : 0 ≡ format_refusal (length t) n) where
+    pub format_done : {t' : List ℕ} → t' ≡ encode_table (formatted (length t / 512 - 1) n) → numbered 0 t' ≡ format_of t n
+    unfolding format_of
+    format_done k = rw (← e, k)
 
-  pub format_shape : x ≡ 0 → Shape (length t)
-  unfolding format_refusal
-  format_shape z =
-      let p = passes (table_shape (length t)) 1 _ (omega arith) (sym e ∙ z) in
-      let s = shaped (length t) p.0 in
-      record { whole = omega (arith, s.whole); least = s.low; most = s.high }
+    pub format_shape : Shape (length t)
+    unfolding format_refusal
+    format_shape =
+        let p = passes (table_shape (length t)) 1 _ (omega arith) (sym e) in
+        let s = shaped (length t) p.0 in
+        record { whole = omega (arith, s.whole); least = s.low; most = s.high }
 
 -- housekeeping
-module _ (t : List ℕ) (n : ℕ) {x : ℕ} (e : x ≡ housekeep_refusal t n) where
-  pub housekeep_refused : (x ≡ 0 → ⊥) → numbered x t ≡ housekeep_of t n
+module _ (t : List ℕ) (n : ℕ) where
+  pub housekeep_refused : (r : Result Unit Refusal) (f : Refusal) → IsErrAnd r (λ y. y ≡ f) → refusal_number f ≡ housekeep_refusal t n → numbered (number_of_result r) t ≡ housekeep_of t n
   unfolding housekeep_of
-  housekeep_refused h = rw (← e, ne_eqb x 0 h)
+  housekeep_refused r f is h = rw (handed r f is, ← h, ne_eqb (refusal_number f) 0 (refused_some f))
 
-  pub housekeep_done : {t' : List ℕ} → x ≡ 0 → Holds t' (clear (tick n (decode_table t))) → numbered 0 t' ≡ housekeep_of t n
-  unfolding housekeep_of
-  housekeep_done {t'} z k = rw (← e, eq-eqb x 0 z, holds_bytes t' (clear (tick n (decode_table t))) k)
+  module _ (e : 0 ≡ housekeep_refusal t n) where
+    pub housekeep_done : {t' : List ℕ} → Holds t' (clear (tick n (decode_table t))) → numbered 0 t' ≡ housekeep_of t n
+    unfolding housekeep_of
+    housekeep_done {t'} k = rw (← e, holds_bytes t' (clear (tick n (decode_table t))) k)
 
-  module _ (z : x ≡ 0) where
     tidied : (Lawful t) × (n ≤ last_time)
     unfolding housekeep_refusal
     tidied =
-        let p1 = passes (table_shape (length t)) 1 _ (omega arith) (sym e ∙ z) in
+        let p1 = passes (table_shape (length t)) 1 _ (omega arith) (sym e) in
         let p2 = passes (table_lawful t) 2 _ (omega arith) p1.1 in
         let p6 = passes (leb n last_time) 6 0 (omega arith) p2.1 in
         (lawful_law t p1.0 p2.0, leb-true n last_time p6.0)
@@ -74,16 +80,16 @@ module _ (t : List ℕ) (n : ℕ) {x : ℕ} (e : x ≡ housekeep_refusal t n) wh
     housekeep_time = tidied.1
 
 -- finish
-module _ (t : List ℕ) (n : ℕ) (o : List ℕ) {x : ℕ} (e : x ≡ finish_refusal t n (length o)) where
-  pub finish-refused : (s : ℕ) (v : Bool) {y : Outcome} → (x ≡ 0 → ⊥) → y ≡ refused_outcome x → result_of y t o [] ≡ finish_of t s v n o
+module _ (t : List ℕ) (n : ℕ) (o : List ℕ) where
+  pub finish_refused : (s : ℕ) (v : Bool) (f : Refusal) {y : Outcome} → refusal_number f ≡ finish_refusal t n (length o) → y ≡ refused_outcome (refusal_number f) → result_of y t o [] ≡ finish_of t s v n o
   unfolding finish_of
-  finish-refused s v h q = rw (q, ← e, ne_eqb x 0 h)
+  finish_refused s v f h q = rw (q, ← h, ne_eqb (refusal_number f) 0 (refused_some f))
 
-  module _ (z : x ≡ 0) where
+  module _ (e : 0 ≡ finish_refusal t n (length o)) where
     seen : (Lawful t) × (8192 ≤ length o) × (n ≤ last_time)
     unfolding finish_refusal
     seen =
-        let p1 = passes (table_shape (length t)) 1 _ (omega arith) (sym e ∙ z) in
+        let p1 = passes (table_shape (length t)) 1 _ (omega arith) (sym e) in
         let p2 = passes (table_lawful t) 2 _ (omega arith) p1.1 in
         let p4 = passes (leb 8192 (length o)) 4 _ (omega arith) p2.1 in
         let p6 = passes (leb n last_time) 6 0 (omega arith) p4.1 in
@@ -105,12 +111,17 @@ module _ (t : List ℕ) (n : ℕ) (o : List ℕ) {x : ℕ} (e : x ≡ finish_ref
         → result_of y t' o' [] ≡ finish_of t s v n o
     unfolding finish_of
     finish_done s v {b} {t'} {o'} {y} k d =
-        did_delivered (done_did [] d) ∙ rw (k.is, ← e, eq-eqb x 0 z)
+        did_delivered (done_did [] d) ∙ rw (k.is, ← e)
 
 -- answer: no refusal reads the method, the cookie or the verdict, so any will do for what an answered call knows
-module _ (t g u b : List ℕ) (n : ℕ) (d o c : List ℕ) {x : ℕ} (e : x ≡ answer_refusal t g (length u) (length b) n (length d) (length o) (length c)) (z : x ≡ 0) where
+module _ (t g u b : List ℕ) (n : ℕ) (d o c : List ℕ) where
+  pub answer_refused : (m : Method) (k : List ℕ) (v : Bool) (f : Refusal) {y : Outcome} → refusal_number f ≡ answer_refusal t g (length u) (length b) n (length d) (length o) (length c)
+      → y ≡ refused_outcome (refusal_number f) → result_of y t o c ≡ answer_of (inputs t g m u b k n d v o c)
+  answer_refused m k v f h q = top_refused t g m u b k n d v o c h (refused_some f) q
+
+module _ (t g u b : List ℕ) (n : ℕ) (d o c : List ℕ) (e : 0 ≡ answer_refusal t g (length u) (length b) n (length d) (length o) (length c)) where
   told : Passed (inputs t g method.Get u b [] n d false o c)
-  told = top_passed t g method.Get u b [] n d false o c e z
+  told = top_passed t g method.Get u b [] n d false o c e refl
 
   pub answer_lawful : Lawful t
   answer_lawful = lawful_law t told.shape told.lawful
@@ -128,13 +139,13 @@ module _ (t g u b : List ℕ) (n : ℕ) (d o c : List ℕ) {x : ℕ} (e : x ≡ 
       → Did (request_step (request_of m u b) (brought_by g k d v) (decode_table b')) y t' o o' c c'
       → result_of y t' o' c' ≡ answer_of (inputs t g m u b k n d v o c)
   unfolding answer_of step_of
-  answer_done m k v h w = did_delivered w ∙ rw (h.is, ← e, eq-eqb x 0 z)
+  answer_done m k v h w = did_delivered w ∙ rw (h.is, ← e)
 
 -- visit: what an answered call knows
-module _ (t : List ℕ) (n : ℕ) (d o : List ℕ) {x : ℕ} (e : x ≡ visit_unless t n (length d) (length o) 0) (z : x ≡ 0) where
+module _ (t : List ℕ) (n : ℕ) (d o : List ℕ) (e : 0 ≡ visit_unless t n (length d) (length o) 0) where
   ready : (Lawful t) × (8192 ≤ length o) × (length d ≡ 48) × (n ≤ last_time)
   ready =
-      let p1 = passes (table_shape (length t)) 1 _ (omega arith) (sym e ∙ z) in
+      let p1 = passes (table_shape (length t)) 1 _ (omega arith) (sym e) in
       let p2 = passes (table_lawful t) 2 _ (omega arith) p1.1 in
       let p4 = passes (leb 8192 (length o) && eqb (length d) 48) 4 _ (omega arith) p2.1 in
       let p6 = passes (leb n last_time) 6 0 (omega arith) p4.1 in

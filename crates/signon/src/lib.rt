@@ -1,21 +1,23 @@
 // The nine calls: format a table, check a table, keep house, read username and password from a form, answer a request, finish a callback,
 // tell a visit, make a register block, check a register. A host calls these and nothing else. Each takes any bytes: it is refused by
-// number, in the order of the list, and then nothing is written; or it does what the protocol says.
+// the first of the list that applies, and then nothing is written; or it does what the protocol says.
 #![tactic(auto)]
 
 ghost use Rattle.std.specs.Prelude.{◌≡◌, []};
 ghost use Rattle.protocol.specs.Calls.{refused_outcome, numbered, format_of, housekeep_of, check_of, form_read, form_of, inputs, result_of, answer_of, finish_of};
+ghost use Rattle.protocol.specs.Refusals.{refusal_number, number_of_result};
 ghost use Rattle.protocol.specs.Visits.{visit_read, visit_of};
 ghost use Rattle.protocol.specs.Panels.{made, panel_of, fault_of};
 
-use protocol::{Answer, Fault, Form, Method, Outcome, Visit};
+use protocol::{Answer, Fault, Form, Method, Outcome, Refusal, Visit};
+use refusal::Sizes;
 
 // A refused call's result: its number, all else 0.
-fn refused(number: u32) -> Outcome
-    ensures { result ≡ refused_outcome number }
+fn refused(refusal: Refusal) -> Outcome
+    ensures { result ≡ refused_outcome (refusal_number refusal) }
 {
     Outcome {
-        refusal: number,
+        refusal: refusal.into(),
         answer: Answer::Nothing,
         status: 0,
         length: 0,
@@ -25,33 +27,27 @@ fn refused(number: u32) -> Outcome
     }
 }
 
-// A fresh table, whatever the bytes were: the refusal's number, else 0.
-pub fn format(table: &mut [u8], time: u64) -> u32
-    ensures { numbered result table.new ≡ format_of table.old time }
+// A fresh table, whatever the bytes were.
+pub fn format(table: &mut [u8], time: u64) -> Result<(), Refusal>
+    ensures { numbered (number_of_result result) table.new ≡ format_of table.old time }
 {
-    let number = refusal::of_format(table.len(), time);
-    if number != 0 {
-        return number;
-    }
+    refusal::of_format(table.len(), time)?;
     table_edit::format(table, time);
-    0
+    Ok(())
 }
 
-// The clock moved, and every record that is dead by then freed: the refusal's number, else 0.
-pub fn housekeep(table: &mut [u8], time: u64) -> u32
-    ensures { numbered result table.new ≡ housekeep_of table.old time }
+// The clock moved, and every record that is dead by then freed.
+pub fn housekeep(table: &mut [u8], time: u64) -> Result<(), Refusal>
+    ensures { numbered (number_of_result result) table.new ≡ housekeep_of table.old time }
 {
-    let number = refusal::of_housekeep(table, time);
-    if number != 0 {
-        return number;
-    }
+    refusal::of_housekeep(table, time)?;
     table_edit::housekeep(table, time);
-    0
+    Ok(())
 }
 
-// Whether a table is lawful: 0, else the refusal's number.
-pub fn check(table: &[u8]) -> u32
-    ensures { result ≡ check_of table.now }
+// Whether a table is lawful.
+pub fn check(table: &[u8]) -> Result<(), Refusal>
+    ensures { number_of_result result ≡ check_of table.now }
 {
     refusal::of_check(table)
 }
@@ -81,18 +77,15 @@ pub fn answer(
         ≡ answer_of (inputs table.old register.now method target.now body.now cookie.now time
         random.now verdict out.old cookie_out.old) }
 {
-    let number = refusal::of_answer(
-        table,
-        register,
-        target.len(),
-        body.len(),
-        time,
-        random.len(),
-        out.len(),
-        cookie_out.len(),
-    );
-    if number != 0 {
-        return refused(number);
+    let sizes = Sizes {
+        target: target.len(),
+        body: body.len(),
+        random: random.len(),
+        out: out.len(),
+        cookie_out: cookie_out.len(),
+    };
+    if let Err(refusal) = refusal::of_answer(table, register, time, sizes) {
+        return refused(refusal);
     }
     table_edit::tick(table, time); // what is dead by then stays in its slot
     route::request(
@@ -104,9 +97,8 @@ pub fn answer(
 pub fn finish(table: &mut [u8], serial: u32, outcome: bool, time: u64, out: &mut [u8]) -> Outcome
     ensures { result_of result table.new out.new [] ≡ finish_of table.old serial outcome time out.old }
 {
-    let number = refusal::of_finish(table, time, out.len());
-    if number != 0 {
-        return refused(number);
+    if let Err(refusal) = refusal::of_finish(table, time, out.len()) {
+        return refused(refusal);
     }
     table_edit::tick(table, time);
     finish::finish(table, serial, outcome, out)
@@ -124,16 +116,18 @@ pub fn visit(
     ensures { visit_read result table.now out.new
         ≡ visit_of table.now cookie.now number time random.now out.old }
 {
-    let refusal = refusal::of_visit(table, time, random.len(), out.len());
-    if refusal != 0 {
-        return Visit { refusal, length: 0 };
+    if let Err(refusal) = refusal::of_visit(table, time, random.len(), out.len()) {
+        return Visit {
+            refusal: refusal.into(),
+            length: 0,
+        };
     }
     visit::tell(table, cookie, number, time, random, out)
 }
 
-// The register block of a service and a callback, check included: the refusal's number, else 0.
-pub fn panel(service: &[u8], callback: &[u8], block: &mut [u8]) -> u32
-    ensures { made result block.new ≡ panel_of service.now callback.now block.old }
+// The register block of a service and a callback, check included.
+pub fn panel(service: &[u8], callback: &[u8], block: &mut [u8]) -> Result<(), Refusal>
+    ensures { made (number_of_result result) block.new ≡ panel_of service.now callback.now block.old }
 {
     register::panel(service, callback, block)
 }

@@ -1,6 +1,8 @@
 -- The two places filled.
-use Rattle.export.proofs.Laws.{fault-put}
+use borrow.Author.Rules.{rules}
+use Rattle.export.specs.Numbers.{fault_numbers}
 use Rattle.export.proofs.put_fault.Goals as goal
 
 pub returns : goal.returns
-returns c = search fault-put
+unfolding fault_numbers
+returns c = search rules

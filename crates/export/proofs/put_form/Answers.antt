@@ -1,6 +1,8 @@
 -- The three places filled.
-use Rattle.export.proofs.Laws.{form_put}
+use borrow.Author.Rules.{rules}
+use Rattle.export.specs.Numbers.{form_numbers}
 use Rattle.export.proofs.put_form.Goals as goal
 
 pub returns : goal.returns
-returns c = search form_put
+unfolding form_numbers
+returns c = search rules

@@ -1,6 +1,8 @@
 -- The two places filled.
-use Rattle.export.proofs.Laws.{visit_put}
+use borrow.Author.Rules.{rules}
+use Rattle.export.specs.Numbers.{visit_numbers}
 use Rattle.export.proofs.put_visit.Goals as goal
 
 pub returns : goal.returns
-returns c = search visit_put
+unfolding visit_numbers
+returns c = search rules

@@ -1,29 +1,25 @@
--- The first two numbers, then each test is a rung of the list. Assumes nothing.
+-- Each test is a rung of the list. Assumes nothing.
 use borrow.Author.Rules.{rules}
 use Rattle.protocol.specs.Calls.{answer_refusal}
-use Rattle.refusal.proofs.Laws.{rung_no, rung_yes, judged_no, judged_yes}
+use Rattle.refusal.proofs.Laws.{judged_no, judged_yes, rung_no, rung_yes}
 use Rattle.refusal.proofs.of_answer.Goals as goal
 
-pub of_check-number-requires : goal.of_check-number-requires
+pub returns-in_err-of_check : goal.returns-in_err-of_check
 unfolding answer_refusal
-of_check-number-requires c = search rules
+returns-in_err-of_check c = judged_no c.args.table.now _ c.from_residual.result c.in_err-of_check.field-0.0 c.from_residual.ensures.1 c.in_err-of_check.ensures
 
-pub returns-then-number-ne0 : goal.returns-then-number-ne0
+pub returns-in_err-unless : goal.returns-in_err-unless
 unfolding answer_refusal
-returns-then-number-ne0 c = search judged_no
+returns-in_err-unless c = search (rules, judged_yes, rung_yes, rung_no) depth 12
 
-pub register_lawful-requires : goal.register_lawful-requires
+pub returns-in_err-unless-2 : goal.returns-in_err-unless-2
 unfolding answer_refusal
-register_lawful-requires c = search rules
+returns-in_err-unless-2 c = search (rules, judged_yes, rung_yes, rung_no) depth 12
 
-pub after_bytes-requires : goal.after_bytes-requires
+pub returns-in_err-unless-3 : goal.returns-in_err-unless-3
 unfolding answer_refusal
-after_bytes-requires c = search rules
-
-pub returns-then-register_lawful : goal.returns-then-register_lawful
-unfolding answer_refusal
-returns-then-register_lawful c = search (judged_yes, rung_yes)
+returns-in_err-unless-3 c = search (rules, judged_yes, rung_yes, rung_no) depth 12
 
 pub returns : goal.returns
 unfolding answer_refusal
-returns c = search (judged_yes, rung_no)
+returns c = search (rules, judged_yes, rung_yes, rung_no) depth 12

@@ -1,21 +1,17 @@
--- The first two numbers, then each test is a rung of the list. Assumes nothing.
+-- Each test is a rung of the list. Assumes nothing.
 use borrow.Author.Rules.{rules}
 use Rattle.protocol.specs.Calls.{finish_refusal}
-use Rattle.refusal.proofs.Laws.{judged_no, judged_yes}
+use Rattle.refusal.proofs.Laws.{judged_no, judged_yes, rung_no, rung_yes}
 use Rattle.refusal.proofs.of_finish.Goals as goal
 
-pub of_check-number-requires : goal.of_check-number-requires
+pub returns-in_err-of_check : goal.returns-in_err-of_check
 unfolding finish_refusal
-of_check-number-requires c = search rules
+returns-in_err-of_check c = judged_no c.args.table.now _ c.from_residual.result c.in_err-of_check.field-0.0 c.from_residual.ensures.1 c.in_err-of_check.ensures
 
-pub returns-then-number-ne0 : goal.returns-then-number-ne0
+pub returns-in_err-unless : goal.returns-in_err-unless
 unfolding finish_refusal
-returns-then-number-ne0 c = search judged_no
-
-pub after_table-requires : goal.after_table-requires
-unfolding finish_refusal
-after_table-requires c = search rules
+returns-in_err-unless c = search (rules, judged_yes, rung_yes, rung_no) depth 12
 
 pub returns : goal.returns
 unfolding finish_refusal
-returns c = search judged_yes
+returns c = search (rules, judged_yes, rung_yes, rung_no) depth 12

@@ -1,9 +1,13 @@
--- The first two numbers, then each test is a rung of the list. Assumes nothing.
-use Rattle.refusal.proofs.Laws.{judged_no, judged_yes}
+-- Each test is a rung of the list. Assumes nothing.
+use borrow.Author.Rules.{rules}
+use Rattle.refusal.proofs.Laws.{judged_no, judged_yes, rung_no, rung_yes}
 use Rattle.refusal.proofs.of_visit.Goals as goal
 
-pub returns-then-number-ne0 : goal.returns-then-number-ne0
-returns-then-number-ne0 c = search judged_no
+pub returns-in_err-of_check : goal.returns-in_err-of_check
+returns-in_err-of_check c = judged_no c.args.table.now _ c.from_residual.result c.in_err-of_check.field-0.0 c.from_residual.ensures.1 c.in_err-of_check.ensures
+
+pub returns-in_err-unless : goal.returns-in_err-unless
+returns-in_err-unless c = search (rules, judged_yes, rung_yes, rung_no) depth 12
 
 pub returns : goal.returns
-returns c = search judged_yes
+returns c = search (rules, judged_yes, rung_yes, rung_no) depth 12

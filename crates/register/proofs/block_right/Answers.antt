@@ -12,5 +12,5 @@ returns-then-entry_right c =
     let bytes : Bytes c.args.b.now = record { each = λ i. (c.type_inv.b i).fits } in
     search (block_yes, bytes)
 
-pub returns : goal.returns
-returns c = search (rules, block_no)
+pub returns-else-entry_right : goal.returns-else-entry_right
+returns-else-entry_right c = search (rules, block_no)

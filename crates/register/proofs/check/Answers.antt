@@ -1,13 +1,13 @@
 -- The first block at fault, or none. Assumes nothing.
 use borrow.Author.Rules.{rules}
-use Rattle.register.proofs.Laws.{check_fault, check_none, check_shape}
+use Rattle.register.proofs.Laws.{check_shape, check_fault, check_none}
 use Rattle.register.proofs.check.Goals as goal
 
-pub returns-then-block-b : goal.returns-then-block-b
-returns-then-block-b c = search (rules, check_fault)
+pub returns-then-not-shape_right : goal.returns-then-not-shape_right
+returns-then-not-shape_right c = search (rules, check_shape)
 
-pub returns-then-shape_right : goal.returns-then-shape_right
-returns-then-shape_right c = search (rules, check_none)
+pub returns-in-Some : goal.returns-in-Some
+returns-in-Some c = search (rules, check_fault)
 
-pub returns : goal.returns
-returns c = search (rules, check_shape)
+pub returns-in-None : goal.returns-in-None
+returns-in-None c = search (rules, check_none)

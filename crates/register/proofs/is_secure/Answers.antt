@@ -1,13 +1,10 @@
--- The first eight bytes. Assumes nothing.
+-- Empty, or by its first eight bytes. Assumes nothing.
 use borrow.Author.Rules.{rules}
-use Rattle.register.proofs.Laws.{secure-short, secure-long, first_eight}
+use Rattle.register.proofs.Laws.{secure_none, secure_some}
 use Rattle.register.proofs.is_secure.Goals as goal
 
-pub returns-then-s-lt8 : goal.returns-then-s-lt8
-returns-then-s-lt8 c = search (rules, secure-short)
+pub returns-then-is_empty : goal.returns-then-is_empty
+returns-then-is_empty c = search (rules, secure_none)
 
-pub slice_bounds-same-end : goal.slice_bounds-same-end
-slice_bounds-same-end c = search (rules, first_eight)
-
-pub returns : goal.returns
-returns c = search (rules, secure-long)
+pub returns-else-is_empty : goal.returns-else-is_empty
+returns-else-is_empty c = search (rules, secure_some)

@@ -1,16 +1,23 @@
 -- Refused, or the request's step on the table after the clock. Assumes nothing.
-use Rattle.protocol.proofs.Top.{top_refused}
-use Rattle.signon.proofs.Laws.{answer_lawful, answer_time, answer_cookie, answer_lent, answer_done}
+use borrow.Author.Rules.{rules}
+use Rattle.signon.proofs.Laws.{answer_refused, answer_lawful, answer_time, answer_cookie, answer_lent, answer_done}
 use Rattle.signon.proofs.answer.Goals as goal
 
-pub returns-then-number-ne0 : goal.returns-then-number-ne0
-returns-then-number-ne0 c = search top_refused
+pub returns-in-Err : goal.returns-in-Err
+returns-in-Err c =
+    answer_refused c.args.table.now c.args.register.now c.args.target.now c.args.body.now c.args.time c.args.random.now c.args.out.now c.args.cookie_out.now
+    c.args.method c.args.cookie.now c.args.verdict c.in-Err.refusal c.in-Err.ensures c.refused.ensures
 
 pub tick-requires : goal.tick-requires
-tick-requires c = (search answer_lawful, search answer_time)
+tick-requires c = (search (rules, answer_lawful), search (rules, answer_time))
 
 pub request-requires : goal.request-requires
-request-requires c = (search answer_lent, search answer_cookie)
+request-requires c = (
+  answer_lent c.args.table.now c.args.register.now c.args.target.now c.args.body.now c.args.time c.args.random.now c.args.out.now c.args.cookie_out.now (search rules) (search rules),
+  search (rules, answer_cookie),
+)
 
 pub returns : goal.returns
-returns c = search answer_done
+returns c =
+    answer_done c.args.table.now c.args.register.now c.args.target.now c.args.body.now c.args.time c.args.random.now c.args.out.now c.args.cookie_out.now (search rules)
+    c.args.method c.args.cookie.now c.args.verdict (search rules) c.request.ensures
