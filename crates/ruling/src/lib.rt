@@ -1,7 +1,7 @@
 // The ruling on a presented ticket: what is to be said of it, found before it is spent and answered only after that.
 #![tactic(auto)]
 
-ghost use Rattle.std.specs.Prelude.{◌≡◌, false, not};
+ghost use Rattle.std.specs.Prelude.{◌≡◌, not};
 ghost use Rattle.protocol.specs.Steps.{takes_proxies, proxy_parent, ruling_of};
 ghost use Rattle.protocol.specs.Held.{Fine, In, said_at};
 ghost use Rattle.request.specs.Value.{text_of};
