@@ -1,27 +1,29 @@
--- The login ticket that is spent, what is lent after that, and what is done.
-use Rattle.std.specs.Prelude.{◌≡◌, Bool, not, List, ℕ, ◌≤◌, eqb, length}
+-- The login ticket that is spent, what is lent after that, and what a body posts.
+use Rattle.std.specs.Prelude.{◌≡◌, Bool, List, ℕ, ◌≤◌, length, ltb}
 use Rattle.protocol.specs.Bytes.{if}
 use Rattle.protocol.specs.Tickets.{a_login}
-use Rattle.protocol.specs.Table.{Table, decode_table}
-use Rattle.protocol.specs.Steps.{Brought, Step, remove, slot_named, unknown_service, admission_of, entered}
+use Rattle.protocol.specs.Table.{decode_table}
+use Rattle.protocol.specs.Request.{Posted}
+use Rattle.protocol.specs.Steps.{remove, slot_named}
 use Rattle.protocol.specs.Held.{Fine, Holds}
+use Rattle.request.specs.Value.{text_of}
+use Rattle.request.specs.declared.LoginBody.{LoginBody}
 
--- the live login ticket of a text was removed, or there was none
-pub record Spent (lt b b' : List ℕ) (spent : Bool) : Type 0 where
-  pub was : spent ≡ not (eqb (slot_named a_login lt (decode_table b)) 0)
+-- credentials are judged by whether the login ticket's slot is 0, which is none: 1 stands for any other
+abbrev pub slot_if : Bool → ℕ
+slot_if live = if live 1 0
+
+-- the live login ticket of a text was removed, if there was one
+pub record Spent (lt b b' : List ℕ) (live : Bool) : Type 0 where
+  pub slot : live ≡ ltb 0 (slot_named a_login lt (decode_table b))
   pub table : Holds b' (remove (slot_named a_login lt (decode_table b)) (decode_table b))
 
--- a slot where a ticket was spent, and 0 where there was none, as the step tells them apart: which slot it was makes no difference to it
-abbrev pub spent_slot : Bool → ℕ
-spent_slot spent = if spent 1 0
-
 -- what the credentials are judged with then: the table need not be lawful
-pub record Supplied (b random o c : List ℕ) : Type 0 where
+pub record Supplied (b o c : List ℕ) : Type 0 where
   pub fine : Fine b
-  pub drawn : length random ≡ 48
   pub out : 8192 ≤ length o
   pub cookie : 64 ≤ length c
 
--- what becomes of credentials whose login ticket was spent, or was none
-abbrev pub judged : Bool → List ℕ → List ℕ → Bool → Brought → Table → Step
-judged spent service user absent g t = entered (admission_of (unknown_service service g.register) (spent_slot spent) absent g.verdict) user service g t
+-- what a body posts
+abbrev pub posted_by : LoginBody → Posted
+posted_by p = record { service = text_of p.service; username = text_of p.username; password = text_of p.password; lt = text_of p.lt }

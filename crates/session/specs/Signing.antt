@@ -3,22 +3,20 @@ use Rattle.std.specs.Prelude.{◌≡◌, true, List, ℕ, ◌≤◌, length}
 use Rattle.protocol.specs.Table.{Table, decode_table}
 use Rattle.protocol.specs.Steps.{Step, session_of, room_for, new_session, session_with, accepted}
 use Rattle.protocol.specs.Held.{Fine}
-use Rattle.request.specs.Value.{Readable}
-use Rattle.request.specs.declared.Value.{Value}
+use Rattle.request.specs.declared.value.Value.{Value}
+use Rattle.request.specs.Value.{Short}
 
--- a table with room for a session of the user whom a body names, and the random input
-pub record Newcomer (b body : List ℕ) (user : Value) (random : List ℕ) : Type 0 where
+-- a table with room for a session of a user
+pub record Newcomer (b : List ℕ) (user : Value) : Type 0 where
   pub fine : Fine b
-  pub name : Readable true 64 body user
-  pub drawn : length random ≡ 48
+  pub name : Short 64 user
   pub room : room_for 1 (decode_table b) ≡ true
 
--- a table, the user whom a body names, a service, the random input, and outputs with room
-pub record Signing (b body : List ℕ) (user : Value) (s random o c : List ℕ) : Type 0 where
+-- a table, a user, a service, and outputs with room
+pub record Signing (b : List ℕ) (user : Value) (s o c : List ℕ) : Type 0 where
   pub fine : Fine b
-  pub name : Readable true 64 body user
+  pub name : Short 64 user
   pub short : length s ≤ 200
-  pub drawn : length random ≡ 48
   pub out : 8192 ≤ length o
   pub cookie : 64 ≤ length c
 

@@ -2,11 +2,11 @@
 use Rattle.login_post.proofs.Laws.{admission_unknown, admission_again, admission_accepted}
 use Rattle.login_post.proofs.admission_of.Goals as goal
 
-pub returns-then-unknown : goal.returns-then-unknown
-returns-then-unknown c = search admission_unknown
+pub returns-in-true-default : goal.returns-in-true-default
+returns-in-true-default c = search admission_unknown
 
-pub returns-then-spent-absent : goal.returns-then-spent-absent
-returns-then-spent-absent c = search admission_again
+pub returns-in-false-false : goal.returns-in-false-false
+returns-in-false-false c = search admission_again
 
-pub returns : goal.returns
-returns c = search admission_accepted
+pub returns-in-false-true : goal.returns-in-false-true
+returns-in-false-true c = search admission_accepted

@@ -1,19 +1,16 @@
 -- Malformed, or judged on the table without the login ticket.
 use borrow.Author.Rules.{rules}
-use Rattle.login_post.proofs.Laws.{as_malformed, lt_readable, service_readable, username_readable, supplied, as_given}
+use Rattle.login_post.proofs.Laws.{as_malformed, lt_short, service_short, username_short, as_given}
 use Rattle.login_post.proofs.post.Goals as goal
 
-pub spend_given-spent-requires : goal.spend_given-spent-requires
-spend_given-spent-requires c = (search rules, search lt_readable)
+pub spend-live-requires : goal.spend-live-requires
+spend-live-requires c = (search rules, search lt_short)
 
-pub enter_given-requires-clause-supplied : goal.enter_given-requires-clause-supplied
-enter_given-requires-clause-supplied c = search (supplied, c.requires.0, c.requires.1, c.spend_given-spent.ensures)
+pub enter-requires-clause-fits : goal.enter-requires-clause-fits
+enter-requires-clause-fits c = (search service_short, search username_short)
 
-pub enter_given-requires-clause-readable : goal.enter_given-requires-clause-readable
-enter_given-requires-clause-readable c = (search service_readable, search username_readable)
+pub returns-in-None : goal.returns-in-None
+returns-in-None c = search as_malformed
 
-pub returns-in-Malformed : goal.returns-in-Malformed
-returns-in-Malformed c = search as_malformed
-
-pub returns-in-Given : goal.returns-in-Given
-returns-in-Given c = search (as_given, c.login_body.ensures, c.spend_given-spent.ensures, c.enter_given.ensures)
+pub returns-in-Some : goal.returns-in-Some
+returns-in-Some c = search as_given

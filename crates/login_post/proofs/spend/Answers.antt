@@ -7,8 +7,8 @@ use Rattle.login_post.proofs.spend.Goals as goal
 pub free_record-requires : goal.free_record-requires
 free_record-requires c = (search rules, search named_slot)
 
-pub returns-in_default : goal.returns-in_default
-returns-in_default c = search spent_none
+pub returns-in-Some : goal.returns-in-Some
+returns-in-Some c = search spent_found
 
-pub returns : goal.returns
-returns c = search spent_found
+pub returns-in-None : goal.returns-in-None
+returns-in-None c = search (rules, spent_none)
