@@ -22,23 +22,16 @@ fn tell(table: &[u8], slot: usize, iou: &[u8], out: &mut [u8]) -> Outcome
     success::say_success(table, session, mark, iou, parent, out)
 }
 
-// Yes, with room for the IOU's text: told, then a grant.
-fn grant_by(table: &mut [u8], slot: usize, iou: &mut [u8], out: &mut [u8]) -> Outcome
-    requires { (Waits slot table.old) × (64 ≤ length iou.old) × (8192 ≤ length out.old) }
-    ensures { Does (granted slot) result table.old table.new out.old out.new }
-{
-    let n = ticket::put_iou(iou, 0, table::iou_of(table, slot));
-    let told = tell(table, slot, &iou[..n], out);
-    table::turn(table, slot, ticket::Grant::KIND);
-    told
-}
-
+// Yes: told with the IOU's text, then a grant.
 fn grant(table: &mut [u8], slot: usize, out: &mut [u8]) -> Outcome
     requires { (Waits slot table.old) × (8192 ≤ length out.old) }
     ensures { Does (granted slot) result table.old table.new out.old out.new }
 {
     let mut iou = [0u8; 64];
-    grant_by(table, slot, &mut iou, out)
+    let n = ticket::put_iou(&mut iou, 0, table::iou_of(table, slot));
+    let told = tell(table, slot, &iou[..n], out);
+    table::turn(table, slot, ticket::Grant::KIND);
+    told
 }
 
 // No: told without IOU, then removed.
@@ -56,9 +49,10 @@ fn settle(table: &mut [u8], slot: usize, outcome: bool, out: &mut [u8]) -> Outco
     ensures { Does (settled slot outcome) result table.old table.new out.old out.new }
 {
     if outcome {
-        return grant(table, slot, out);
+        grant(table, slot, out)
+    } else {
+        remove(table, slot, out)
     }
-    remove(table, slot, out)
 }
 
 // The outcome of the callback of a serial.

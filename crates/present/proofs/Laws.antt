@@ -11,52 +11,33 @@ use Rattle.protocol.specs.Bytes.{if, is_empty, same}
 use Rattle.protocol.specs.Tickets.{a_proxy, a_waiting, deepest}
 use Rattle.protocol.specs.Records.{Rec}
 use Rattle.protocol.specs.Table.{Table, decode_table, rec_at}
-use Rattle.protocol.specs.Register.{callback_of, decode_register}
-use Rattle.protocol.specs.Answers.{InvalidTicket, InvalidService, YesNo, Failure}
+use Rattle.protocol.specs.Register.{Entry, callback_of, decode_register}
+use Rattle.protocol.specs.Answers.{InvalidTicket, InvalidService, YesNo}
 use Rattle.protocol.specs.Steps.{Brought, step, remove, left_by, ticket_slot, room_for, new_rec, failed, takes_proxies, proxy_parent, waiting_with, success_of, ruling_of, grants, grant_or_tell, is_plain, accept_ticket, ruled, presented}
 use Rattle.protocol.specs.Written.{Wrote}
-use Rattle.protocol.specs.Held.{Lawful, Lent, In, Within, Spendable, Holds, Said, Done, bringing}
+use Rattle.protocol.specs.Held.{Lawful, Lent, Within, Spendable, Holds, Said, Done, bringing}
 use Rattle.protocol.specs.declared.Outcome.{Outcome}
 use Rattle.protocol.specs.declared.Validator.{Validator}
-use Rattle.protocol.specs.declared.Validator.TheVariants as validator
 use Rattle.protocol.proofs.Laws.{both, same-eq, rules_hold_lem}
-use Rattle.protocol.proofs.Searches.{ticket_live}
+use Rattle.protocol.proofs.Panels.{AllShort, lawful_short}
+use Rattle.protocol.proofs.Searches.{empty, ticket_live}
 use Rattle.protocol.proofs.NewSound.{Base, ParentBase, none_above, grant_above}
 use Rattle.protocol.proofs.TurnSound.{left_sound, left_base}
 use Rattle.protocol.proofs.Held.{sound_held, record_in}
 use Rattle.protocol.proofs.Told.{only_said, done_as}
 use Rattle.text.proofs.Splice.{read_back}
-use Rattle.request.specs.Value.{value_at, Readable}
-use Rattle.request.specs.declared.Value.{Value}
 use Rattle.std.specs.Prelude.{Option, Some, None}
 use Rattle.table_find.specs.Searches.{found_at}
 use Rattle.table_find.proofs.Laws.{found_is, found_low, found_none, ticket_slot_lem}
-use Rattle.xml.specs.Codes.{code_of}
-use Rattle.xml.specs.declared.Code.{Code as Written}
 use Rattle.success.specs.Walk.{Told}
 use Rattle.issue.specs.Offers.{Offer}
 use Rattle.table_edit.proofs.Leaving.{shown-live}
 use Rattle.protocol.specs.declared.Ruling.{Ruling}
 use Rattle.protocol.specs.declared.Ruling.TheVariants as ruling
-use Rattle.present.specs.Presented.{grants_to}
-
--- A failure
-
-module _ (v : Validator) (c : Written) (o o' : List ℕ) (r : Outcome) where
-  pub plain-failed : v ≡ validator.Plain → Said (YesNo false) r o o' → Said (failed v (code_of c)) r o o'
-  plain-failed e s = rw e s
-
-  pub service_failed : v ≡ validator.Service → Said (Failure (code_of c)) r o o' → Said (failed v (code_of c)) r o o'
-  service_failed e s = rw e s
-
-  pub proxy-failed : v ≡ validator.Proxy → Said (Failure (code_of c)) r o o' → Said (failed v (code_of c)) r o o'
-  proxy-failed e s = rw e s
+use Rattle.present.specs.Presented.{Stands, grants_to}
+use Rattle.present.specs.declared.Accepted.{Accepted}
 
 -- A grant, or success without
-
-some_byte : (s : List ℕ) → ltb 0 (length s) ≡ not (is_empty s)
-some_byte [] = refl
-some_byte (b ∷ s) = lt-ltb 0 (length (b ∷ s)) (omega arith)
 
 one_deeper : (d : ℕ) → ltb d 4 ≡ leb (d + 1) deepest
 unfolding deepest
@@ -70,15 +51,25 @@ one_deeper d = go (ltb d 4) refl
         go' false f = refl
         go' true f = let x : ltb d 4 ≡ true = lt-ltb d 4 (omega (arith, leb-true (d + 1) 4 f)) in sym e ∙ x
 
-pub grant_tests : (p d n : ℕ) (url callback b : List ℕ) (s m : Bool) → n ≡ length url → d ≡ (rec_at p (decode_table b).slots).depth → s ≡ same url callback → m ≡ room_for 1 (decode_table b)
-    → ltb 0 n && s && ltb d 4 && m ≡ grants_to p callback url (decode_table b)
+pub grant_tests : (p d : ℕ) (url callback b : List ℕ) (a s m : Bool) → a ≡ eqb (length url) 0 → d ≡ (rec_at p (decode_table b).slots).depth → s ≡ same url callback → m ≡ room_for 1 (decode_table b)
+    → not a && s && ltb d 4 && m ≡ grants_to p callback url (decode_table b)
 unfolding grants_to
-grant_tests p d n url callback b s m l f h k = rw (l, some_byte url, one_deeper d, h, f, k)
+grant_tests p d url callback b a s m l f h k = rw (l, ← empty url (length url) refl, one_deeper d, h, f, k)
 
-module _ (b q callback : List ℕ) (u : Value) (p : ℕ) (z : Bool) (e : z ≡ grants_to p callback (value_at false q u) (decode_table b)) where
+-- the callback of a service in a lawful register is short
+callback_short : (s : List ℕ) (es : List Entry) → AllShort es → length (callback_of s es) ≤ 200
+unfolding AllShort callback_of
+callback_short s [] h = omega arith
+callback_short s (e ∷ es) h = go (same s e.service) (callback_short s es h.1)
+  where
+    go : (r : Bool) → length (callback_of s es) ≤ 200 → length (if r e.callback (callback_of s es)) ≤ 200
+    go true k = h.0.callback
+    go false k = k
+
+module _ (b callback url : List ℕ) (p : ℕ) (z : Bool) (e : z ≡ grants_to p callback url (decode_table b)) where
   module _ (y : z ≡ true) where
     record Tests : Type 0 where
-      its_own : value_at false q u ≡ callback
+      its_own : url ≡ callback
       deep : (rec_at p (decode_table b).slots).depth + 1 ≤ 4
       room : room_for 1 (decode_table b) ≡ true
 
@@ -86,7 +77,6 @@ module _ (b q callback : List ℕ) (u : Value) (p : ℕ) (z : Bool) (e : z ≡ g
     unfolding grants_to deepest
     tests =
         let t = decode_table b in
-        let url = value_at false q u in
         let deep = leb ((rec_at p t.slots).depth + 1) 4 in
         let x = both (not (is_empty url) && same url callback && deep) (room_for 1 t) (sym e ∙ y) in
         let v = both (not (is_empty url) && same url callback) deep x.0 in
@@ -98,26 +88,26 @@ module _ (b q callback : List ℕ) (u : Value) (p : ℕ) (z : Bool) (e : z ≡ g
     pub shallow : (d : ℕ) → d ≡ (rec_at p (decode_table b).slots).depth → d + 1 < 256
     shallow d f = omega (arith, tests.deep)
 
-    pub offered : (g random o : List ℕ) → Lent b g random o → Readable false 200 q u → Offer b callback random o
-    offered g random o h w = record { fine = h.lawful.fine; short = rw (sym tests.its_own) (omega (arith, w.long, w.fits)); drawn = h.drawn; out = h.room }
+    pub offered : (g random o service : List ℕ) → callback ≡ callback_of service (decode_register g) → Lent b g random o → Offer b callback o
+    offered g random o service c h = record { fine = h.lawful.fine; short = rw c (callback_short service (decode_register g) (lawful_short g h.panels)); out = h.room }
 
   module _ (g random service o o' : List ℕ) (c : callback ≡ callback_of service (decode_register g)) (s m : ℕ) (r : Outcome) where
-    by_service : grants p service (value_at false q u) (bringing g random) (decode_table b) ≡ z
+    by_service : grants p service url (bringing g random) (decode_table b) ≡ z
     unfolding grants grants_to
     by_service = rw (e, c)
 
     pub grant_done : (y : z ≡ true) (d : ℕ) → d ≡ (rec_at p (decode_table b).slots).depth → (b' : List ℕ) → Done (waiting_with (new_rec a_waiting m p s (d + 1) callback random (decode_table b)) (decode_table b)) r b' o o'
-        → Done (grant_or_tell s p m service (value_at false q u) (bringing g random) (decode_table b)) r b' o o'
+        → Done (grant_or_tell s p m service url (bringing g random) (decode_table b)) r b' o o'
     unfolding grant_or_tell
     grant_done y d f b' x = done_as (rw (by_service ∙ y, f, (tests y).its_own)) x
 
     pub tell_done : z ≡ false → Lent b g random o → Said (success_of s m [] p (decode_table b).slots) r o o'
-        → Done (grant_or_tell s p m service (value_at false q u) (bringing g random) (decode_table b)) r b o o'
+        → Done (grant_or_tell s p m service url (bringing g random) (decode_table b)) r b o o'
     unfolding grant_or_tell
     tell_done y h x = done_as (rw (by_service ∙ y)) (only_said h.lawful.fine x)
 
-pub told : (b g random o : List ℕ) (s p : ℕ) → Lent b g random o → In s b → Within p b → Told b s [] p o
-told b g random o s p h i w = record { lawful = h.lawful; user = i; above = w; short = omega arith; room = h.room }
+pub told : (b g random o : List ℕ) (a : Accepted) → Lent b g random o → Stands a b → Told b a.session [] a.parent o
+told b g random o a h s = record { lawful = h.lawful; user = s.session; above = s.parent; short = omega arith; room = h.room }
 
 -- By the validator
 
@@ -166,11 +156,8 @@ module _ (b : List ℕ) (k : ℕ) (l : Lawful b) (z : Spendable k b) where
           go false false true q = (cc, cc)
           go false false false q = absurd (let w : ◌≡◌ {A = ℕ} 0 1 = cc in omega arith)
 
-      pub session_stays : In s b'
-      session_stays = rw names.0 (record_in b' ticket.session (rw h.is (omega (arith, stands.is))))
-
-      pub parent_stays : Within p b'
-      parent_stays = rw names.1 (above_within (proxy_parent ticket) ticket.session stands.above)
+      pub stays : Stands (record { session = s; parent = p; mark = m }) b'
+      stays = record { session = rw names.0 (record_in b' ticket.session (rw h.is (omega (arith, stands.is)))); parent = rw names.1 (above_within (proxy_parent ticket) ticket.session stands.above) }
 
 pub still_lent : (b b' g random o : List ℕ) (k : ℕ) → Lent b g random o → Spendable k b → Holds b' (left_by k (rec_at k (decode_table b).slots) (remove k (decode_table b))) → Lent b' g random o
 still_lent b b' g random o k x z h = record { lawful = left_lawful b k x.lawful z b' h; panels = x.panels; drawn = x.drawn; room = x.room }
@@ -195,9 +182,8 @@ module _ (v : Validator) (k : ℕ) (rec : Rec) (renew : Bool) (service url : Lis
 
 -- What is found
 
-pub given_found : (q d e b : List ℕ) (v : Value) (n : ℕ) (f : Option ℕ) → Wrote d 0 e n (value_at false q v) → f ≡ found_at (ticket_slot (take n e) (decode_table b))
-    → f ≡ found_at (ticket_slot (value_at false q v) (decode_table b))
-given_found q d e b v n f w h = rw (read_back d e (value_at false q v) n w) at h
+pub given_found : (d e b text : List ℕ) (n : ℕ) (f : Option ℕ) → Wrote d 0 e n text → f ≡ found_at (ticket_slot (take n e) (decode_table b)) → f ≡ found_at (ticket_slot text (decode_table b))
+given_found d e b text n f w h = rw (read_back d e text n w) at h
 
 module _ (b text : List ℕ) {f : Option ℕ} (e : f ≡ found_at (ticket_slot text (decode_table b))) where
   pub found_spendable : {k : ℕ} → f ≡ Some k → Spendable k b

@@ -1,18 +1,18 @@
 -- What a ticket is presented with, and the steps that present it.
-use Rattle.std.specs.Prelude.{Bool, false, ◌&&◌, not, List, ℕ, ◌+◌, leb}
+use Rattle.std.specs.Prelude.{Bool, ◌&&◌, not, List, ℕ, ◌+◌, leb}
 use Rattle.protocol.specs.Bytes.{is_empty, same}
 use Rattle.protocol.specs.Tickets.{deepest}
 use Rattle.protocol.specs.Table.{Table, rec_at}
 use Rattle.protocol.specs.Answers.{Reply}
 use Rattle.protocol.specs.Steps.{Brought, Step, step, remove, room_for, ticket_slot, ruling_of, ruled, presented}
 use Rattle.protocol.specs.declared.Validator.{Validator}
-use Rattle.request.specs.Value.{Readable}
-use Rattle.request.specs.declared.Value.{Value}
+use Rattle.protocol.specs.Held.{In, Within}
+use Rattle.present.specs.declared.Accepted.{Accepted}
 
--- the service and the callback's address can be read at their places in the request
-pub record Values (q : List ℕ) (s u : Value) : Type 0 where
-  pub service : Readable false 200 q s
-  pub url : Readable false 200 q u
+-- the session of an accepted ticket and where its proxies start are in the table
+pub record Stands (a : Accepted) (b : List ℕ) : Type 0 where
+  pub session : In a.session b
+  pub parent : Within a.parent b
 
 -- whether a grant is made, by the callback that the service has
 unfoldable pub grants_to : ℕ → List ℕ → List ℕ → Table → Bool

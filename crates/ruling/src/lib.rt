@@ -1,10 +1,10 @@
 // The ruling on a presented ticket: what is to be said of it, found before it is spent and answered only after that.
 #![tactic(auto)]
 
-ghost use Rattle.std.specs.Prelude.{◌≡◌, false, not};
+ghost use Rattle.std.specs.Prelude.{◌≡◌, not};
 ghost use Rattle.protocol.specs.Steps.{takes_proxies, proxy_parent, ruling_of};
 ghost use Rattle.protocol.specs.Held.{Fine, In, said_at};
-ghost use Rattle.request.specs.Value.{value_at, Readable};
+ghost use Rattle.request.specs.Value.{text_of};
 
 use protocol::{Ruling, Validator};
 use request::Value;
@@ -13,11 +13,7 @@ use request::Value;
 fn refuses_proxies(validator: Validator) -> bool
     ensures { result ≡ not (takes_proxies validator) }
 {
-    match validator {
-        Validator::Plain => true,
-        Validator::Service => true,
-        Validator::Proxy => false,
-    }
+    !matches!(validator, Validator::Proxy)
 }
 
 // A proxy ticket's proxies start at its parent; a service ticket has none.
@@ -37,13 +33,12 @@ pub fn ruling_of(
     slot: usize,
     validator: Validator,
     renew: bool,
-    q: &[u8],
-    service: Value,
+    service: Value<'_>,
 ) -> Ruling
-    requires { (Fine table.now) × (In slot table.now) × (Readable false 200 q.now service) }
-    ensures { result ≡ ruling_of validator renew (value_at false q.now service) (said_at slot table.now) }
+    requires { (Fine table.now) × (In slot table.now) }
+    ensures { result ≡ ruling_of validator renew (text_of service.entry) (said_at slot table.now) }
 {
-    let its_own = request::is_text(q, service, false, table::text_of(table, slot));
+    let its_own = service.is_text(table::text_of(table, slot));
     if (table::kind_of(table, slot) == ticket::Proxy::KIND) & refuses_proxies(validator) {
         return Ruling::NoTicket;
     }
@@ -51,13 +46,10 @@ pub fn ruling_of(
         return Ruling::NoTicket;
     }
     if its_own {
-        let session = table::session_of(table, slot);
-        let parent = proxy_parent(table, slot);
-        let mark = table::mark_of(table, slot);
         return Ruling::Accepted {
-            session,
-            parent,
-            mark,
+            session: table::session_of(table, slot),
+            parent: proxy_parent(table, slot),
+            mark: table::mark_of(table, slot),
         };
     }
     Ruling::NoService

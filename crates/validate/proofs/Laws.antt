@@ -4,6 +4,7 @@ use mathlib.Core.Bool.{Bool, true, false, ◌||◌}
 use mathlib.Core.List.{List}
 use Prim.Native.Nat.{ℕ}
 use lib.Dec.{eqb}
+use lib.ListN.{length}
 use Rattle.protocol.specs.Bytes.{is_empty, same, among}
 use Rattle.protocol.specs.Records.{Rec}
 use Rattle.protocol.specs.Table.{Table, decode_table, rec_at}
@@ -18,50 +19,42 @@ use Rattle.protocol.specs.declared.Ruling.TheVariants as ruling
 use Rattle.protocol.specs.declared.Validator.{Validator}
 use Rattle.protocol.proofs.Searches.{empty}
 use Rattle.protocol.proofs.Told.{only_said}
-use Rattle.request.specs.Value.{value_at, Readable}
+use Rattle.request.specs.Value.{text_of, Short}
 use Rattle.request.specs.Spelled.{spelled_shown, ShownFits, ShownIn}
-use Rattle.request.specs.declared.Value.{Value}
 use Rattle.request.specs.declared.ValidatorQuery.{ValidatorQuery}
-use Rattle.request.specs.declared.ValidatorQuery.TheVariants as query
-use Rattle.present.specs.Presented.{Values}
+use Rattle.std.specs.Prelude.{Option, Some, None}
 
 -- By what was read: a service and a ticket must be there
 
-module _ (v : Validator) (q : List ℕ) (x : ValidatorQuery) (k : ShownIn v q x) where
-  pub as_malformed : x ≡ query.Malformed → (b g random o o' : List ℕ) (r : Outcome) → Lent b g random o → Said (failed v InvalidRequest) r o o' → Done (validate v (shown v q) (bringing g random) (decode_table b)) r b o o'
+module _ (v : Validator) (q : List ℕ) (x : Option ValidatorQuery) (k : ShownIn v q x) where
+  pub as_malformed : x ≡ None → (b g random o o' : List ℕ) (r : Outcome) → Lent b g random o → Said (failed v InvalidRequest) r o o' → Done (validate v (shown v q) (bringing g random) (decode_table b)) r b o o'
   unfolding validate
   as_malformed e b g random o o' r h d =
-      let m : Malformed ≡ shown v q = sym (ap (spelled_shown q) e) ∙ k.spells in
+      let m : Malformed ≡ shown v q = sym (ap spelled_shown e) ∙ k.spells in
       rw (sym m) (only_said h.lawful.fine d)
 
-  module _ (s t : Value) (renew : Bool) (u : Value) (e : x ≡ query.Given s t renew u) where
-    fits : ShownFits q (query.Given s t renew u)
-    fits = rw e at k.fits
-
-    pub values_in : Values q s u
+  module _ (a : ValidatorQuery) (e : x ≡ Some a) where
+    pub ticket_short : Short 64 a.ticket
     unfolding value_most among same
-    values_in = record { service = fits.0; url = fits.2 }
+    ticket_short = let fits : ShownFits (Some a) = rw e at k.fits in fits.1
 
-    pub ticket_in_lem : Readable false 64 q t
-    unfolding value_most among same
-    ticket_in_lem = fits.1
+    asks : Given (record { service = text_of a.service; ticket = text_of a.ticket; renew = a.renew; pgt_url = text_of a.pgt_url }) ≡ shown v q
+    asks = sym (ap spelled_shown e) ∙ k.spells
 
-    asks : Given (record { service = value_at false q s; ticket = value_at false q t; renew = renew; pgt_url = value_at false q u }) ≡ shown v q
-    asks = sym (ap (spelled_shown q) e) ∙ k.spells
+    module _ (no_service no_ticket : Bool) (f : no_service ≡ eqb (length (text_of a.service)) 0) (h : no_ticket ≡ eqb (length (text_of a.ticket)) 0) where
+      lacks : is_empty (text_of a.service) || is_empty (text_of a.ticket) ≡ no_service || no_ticket
+      lacks = rw (f, h, empty (text_of a.service) (length (text_of a.service)) refl, empty (text_of a.ticket) (length (text_of a.ticket)) refl)
 
-    lacks : is_empty (value_at false q s) || is_empty (value_at false q t) ≡ eqb s.length 0 || eqb t.length 0
-    lacks = rw (empty (value_at false q s) s.length values_in.service.long, empty (value_at false q t) t.length ticket_in_lem.long)
+      module _ (b g random o b' o' : List ℕ) (r : Outcome) where
+        pub as_absent : no_service || no_ticket ≡ true → Lent b g random o → Said (failed v InvalidRequest) r o o' → Done (validate v (shown v q) (bringing g random) (decode_table b)) r b o o'
+        unfolding validate
+        as_absent z l d = rw (sym asks, lacks, z) (only_said l.lawful.fine d)
 
-    module _ (b g random o b' o' : List ℕ) (r : Outcome) where
-      pub as_absent : eqb s.length 0 || eqb t.length 0 ≡ true → Lent b g random o → Said (failed v InvalidRequest) r o o' → Done (validate v (shown v q) (bringing g random) (decode_table b)) r b o o'
-      unfolding validate
-      as_absent z h d = rw (sym asks, lacks, z) (only_said h.lawful.fine d)
-
-      pub as_given : eqb s.length 0 || eqb t.length 0 ≡ false
-          → Done (presented v (ticket_slot (value_at false q t) (decode_table b)) renew (value_at false q s) (value_at false q u) (bringing g random) (decode_table b)) r b' o o'
-          → Done (validate v (shown v q) (bringing g random) (decode_table b)) r b' o o'
-      unfolding validate
-      as_given z d = rw (sym asks, lacks, z) d
+        pub as_given : no_service || no_ticket ≡ false
+            → Done (presented v (ticket_slot (text_of a.ticket) (decode_table b)) a.renew (text_of a.service) (text_of a.pgt_url) (bringing g random) (decode_table b)) r b' o o'
+            → Done (validate v (shown v q) (bringing g random) (decode_table b)) r b' o o'
+        unfolding validate
+        as_given z d = rw (sym asks, lacks, z) d
 
 -- cookie and verdict are not read
 module _ (register cookie random : List ℕ) (verdict : Bool) where

@@ -6,5 +6,5 @@ use Rattle.finish.proofs.settle.Goals as goal
 pub returns-then-outcome : goal.returns-then-outcome
 returns-then-outcome c = search (rules, settled_yes)
 
-pub returns : goal.returns
-returns c = search (rules, settled_no)
+pub returns-else-outcome : goal.returns-else-outcome
+returns-else-outcome c = search (rules, settled_no)

@@ -1,16 +1,16 @@
 -- The request is read first, and absent values are refused before anything is spent.
 use borrow.Author.Rules.{rules}
-use Rattle.validate.proofs.Laws.{as_malformed, values_in, ticket_in_lem, as_absent, as_given}
+use Rattle.validate.proofs.Laws.{as_malformed, ticket_short, as_absent, as_given}
 use Rattle.validate.proofs.validate.Goals as goal
 
-pub returns-then-service-ticket : goal.returns-then-service-ticket
-returns-then-service-ticket c = search as_absent
+pub returns-in_default : goal.returns-in_default
+returns-in_default c = search (rules, as_malformed)
+
+pub returns-then-is_absent : goal.returns-then-is_absent
+returns-then-is_absent c = search (rules, as_absent)
 
 pub show-requires : goal.show-requires
-show-requires c = (search rules, search values_in, search ticket_in_lem)
+show-requires c = search (rules, ticket_short)
 
-pub returns-in-Malformed : goal.returns-in-Malformed
-returns-in-Malformed c = search as_malformed
-
-pub returns-else-service-ticket : goal.returns-else-service-ticket
-returns-else-service-ticket c = search as_given
+pub returns : goal.returns
+returns c = search (rules, as_given)
