@@ -1,5 +1,6 @@
 -- The dispatch, an arm at a time, in the form in which code knows its facts. Assumes nothing.
 use mathlib.Core.Path.{◌≡◌}
+use mathlib.Core.Logic.{◌⊎◌, inl, inr}
 use mathlib.Core.Bool.{Bool, false}
 use mathlib.Core.List.{List}
 use Prim.Native.Nat.{ℕ}
@@ -56,17 +57,13 @@ module _ (p : Path) (u g k d : List ℕ) (v : Bool) (b c : List ℕ) {r : Outcom
   post_login e x = rw e x
 
 module _ (p : Path) (u g k d : List ℕ) (v : Bool) (b c o : List ℕ) {r : Outcome} {o' : List ℕ} where
-  pub post_logout : p ≡ path.Logout → Lent b g d o → Said (ErrorPage 405) r o o' → Did (request_step (post_request p u) (brought_by g k d v) (decode_table b)) r b o o' c c
+  -- a path that takes no body
+  pub post_not_taken : (p ≡ path.Logout) ⊎ ((x : Validator) × (p ≡ path.Validate x)) ⊎ (p ≡ path.Proxy) → Lent b g d o → Said (ErrorPage 405) r o o'
+      → Did (request_step (post_request p u) (brought_by g k d v) (decode_table b)) r b o o' c c
   unfolding request_step
-  post_logout e l x = rw e (done_did c (only_said l.lawful.fine x))
-
-  pub post_validate : (w : Validator) → p ≡ path.Validate w → Lent b g d o → Said (ErrorPage 405) r o o' → Did (request_step (post_request p u) (brought_by g k d v) (decode_table b)) r b o o' c c
-  unfolding request_step
-  post_validate w e l x = rw e (done_did c (only_said l.lawful.fine x))
-
-  pub post_proxy : p ≡ path.Proxy → Lent b g d o → Said (ErrorPage 405) r o o' → Did (request_step (post_request p u) (brought_by g k d v) (decode_table b)) r b o o' c c
-  unfolding request_step
-  post_proxy e l x = rw e (done_did c (only_said l.lawful.fine x))
+  post_not_taken (inl e) l x = rw e (done_did c (only_said l.lawful.fine x))
+  post_not_taken (inr (inl e)) l x = rw e.1 (done_did c (only_said l.lawful.fine x))
+  post_not_taken (inr (inr e)) l x = rw e (done_did c (only_said l.lawful.fine x))
 
   pub post_unknown : p ≡ path.Unknown → Lent b g d o → Said (ErrorPage 404) r o o' → Did (request_step (post_request p u) (brought_by g k d v) (decode_table b)) r b o o' c c
   unfolding request_step
