@@ -18,14 +18,9 @@ use Rattle.protocol.specs.declared.Path.TheVariants as path
 use Rattle.protocol.specs.declared.Validator.{Validator}
 use Rattle.protocol.proofs.Told.{only_said, done_as, done_did}
 use Rattle.protocol.specs.Calls.{brought_by}
-use Rattle.logout.specs.Leaving.{leaving, Given as Leaving}
+use Rattle.logout.specs.Leaving.{leaving}
 use Rattle.validate.proofs.Laws.{unread}
 use Rattle.route.proofs.Unread.{logout_reads, proxy_reads, get_reads}
-
--- what logout is lent
-module _ (b g d o : List ℕ) (l : Lent b g d o) where
-  pub lent_logout : Leaving b o
-  lent_logout = record { fine = l.lawful.fine; room = l.room }
 
 -- GET
 module _ (p : Path) (q g k d b : List ℕ) {r : Outcome} {b' o o' : List ℕ} where
@@ -69,12 +64,8 @@ module _ (p : Path) (u g k d : List ℕ) (v : Bool) (b c o : List ℕ) {r : Outc
   unfolding request_step
   post_unknown e l x = rw e (done_did c (only_said l.lawful.fine x))
 
--- both, by the target's path
+-- a request that GETs, by its target's path
 module _ (m : Method) (u body g k d : List ℕ) (v : Bool) (b : List ℕ) {p : Path} {r : Outcome} {b' o o' : List ℕ} (n : p ≡ path_named (path_part u)) where
   pub got : (c : List ℕ) {q : List ℕ} → m ≡ method.Get → q ≡ query_part u → Done (request_step (get_request p q) (brought_by g k d false) (decode_table b)) r b' o o'
       → Did (request_step (request_of m u body) (brought_by g k d v) (decode_table b)) r b' o o' c c
   got c {q} e w x = rw (e, ← n, ← w) (done_did c (done_as (get_reads p q g k d v (decode_table b)) x))
-
-  pub posted : {c c' : List ℕ} → m ≡ method.Post → Did (request_step (post_request p body) (brought_by g k d v) (decode_table b)) r b' o o' c c'
-      → Did (request_step (request_of m u body) (brought_by g k d v) (decode_table b)) r b' o o' c c'
-  posted e x = rw (e, ← n) x
