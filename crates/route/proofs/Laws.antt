@@ -1,5 +1,6 @@
 -- The dispatch, an arm at a time, in the form in which code knows its facts. Assumes nothing.
 use mathlib.Core.Path.{◌≡◌}
+use mathlib.Core.Logic.{◌⊎◌, inl, inr}
 use mathlib.Core.Bool.{Bool, false}
 use mathlib.Core.List.{List}
 use Prim.Native.Nat.{ℕ}
@@ -17,14 +18,9 @@ use Rattle.protocol.specs.declared.Path.TheVariants as path
 use Rattle.protocol.specs.declared.Validator.{Validator}
 use Rattle.protocol.proofs.Told.{only_said, done_as, done_did}
 use Rattle.protocol.specs.Calls.{brought_by}
-use Rattle.logout.specs.Leaving.{leaving, Given as Leaving}
+use Rattle.logout.specs.Leaving.{leaving}
 use Rattle.validate.proofs.Laws.{unread}
 use Rattle.route.proofs.Unread.{logout_reads, proxy_reads, get_reads}
-
--- what logout is lent
-module _ (b g d o : List ℕ) (l : Lent b g d o) where
-  pub lent_logout : Leaving b o
-  lent_logout = record { fine = l.lawful.fine; room = l.room }
 
 -- GET
 module _ (p : Path) (q g k d b : List ℕ) {r : Outcome} {b' o o' : List ℕ} where
@@ -56,28 +52,20 @@ module _ (p : Path) (u g k d : List ℕ) (v : Bool) (b c : List ℕ) {r : Outcom
   post_login e x = rw e x
 
 module _ (p : Path) (u g k d : List ℕ) (v : Bool) (b c o : List ℕ) {r : Outcome} {o' : List ℕ} where
-  pub post_logout : p ≡ path.Logout → Lent b g d o → Said (ErrorPage 405) r o o' → Did (request_step (post_request p u) (brought_by g k d v) (decode_table b)) r b o o' c c
+  -- a path that takes no body
+  pub post_not_taken : (p ≡ path.Logout) ⊎ ((x : Validator) × (p ≡ path.Validate x)) ⊎ (p ≡ path.Proxy) → Lent b g d o → Said (ErrorPage 405) r o o'
+      → Did (request_step (post_request p u) (brought_by g k d v) (decode_table b)) r b o o' c c
   unfolding request_step
-  post_logout e l x = rw e (done_did c (only_said l.lawful.fine x))
-
-  pub post_validate : (w : Validator) → p ≡ path.Validate w → Lent b g d o → Said (ErrorPage 405) r o o' → Did (request_step (post_request p u) (brought_by g k d v) (decode_table b)) r b o o' c c
-  unfolding request_step
-  post_validate w e l x = rw e (done_did c (only_said l.lawful.fine x))
-
-  pub post_proxy : p ≡ path.Proxy → Lent b g d o → Said (ErrorPage 405) r o o' → Did (request_step (post_request p u) (brought_by g k d v) (decode_table b)) r b o o' c c
-  unfolding request_step
-  post_proxy e l x = rw e (done_did c (only_said l.lawful.fine x))
+  post_not_taken (inl e) l x = rw e (done_did c (only_said l.lawful.fine x))
+  post_not_taken (inr (inl e)) l x = rw e.1 (done_did c (only_said l.lawful.fine x))
+  post_not_taken (inr (inr e)) l x = rw e (done_did c (only_said l.lawful.fine x))
 
   pub post_unknown : p ≡ path.Unknown → Lent b g d o → Said (ErrorPage 404) r o o' → Did (request_step (post_request p u) (brought_by g k d v) (decode_table b)) r b o o' c c
   unfolding request_step
   post_unknown e l x = rw e (done_did c (only_said l.lawful.fine x))
 
--- both, by the target's path
+-- a request that GETs, by its target's path
 module _ (m : Method) (u body g k d : List ℕ) (v : Bool) (b : List ℕ) {p : Path} {r : Outcome} {b' o o' : List ℕ} (n : p ≡ path_named (path_part u)) where
   pub got : (c : List ℕ) {q : List ℕ} → m ≡ method.Get → q ≡ query_part u → Done (request_step (get_request p q) (brought_by g k d false) (decode_table b)) r b' o o'
       → Did (request_step (request_of m u body) (brought_by g k d v) (decode_table b)) r b' o o' c c
   got c {q} e w x = rw (e, ← n, ← w) (done_did c (done_as (get_reads p q g k d v (decode_table b)) x))
-
-  pub posted : {c c' : List ℕ} → m ≡ method.Post → Did (request_step (post_request p body) (brought_by g k d v) (decode_table b)) r b' o o' c c'
-      → Did (request_step (request_of m u body) (brought_by g k d v) (decode_table b)) r b' o o' c c'
-  posted e x = rw (e, ← n) x

@@ -7,7 +7,7 @@ use native.Mathlib.Nat.{zero-add}
 use native.Mathlib.Numerals.{sub-one}
 use native.Mathlib.Omega.{arith}
 use borrow.Author.Tests.{eq-eqb, ne_eqb, lt-ltb, le-ltb, ltb-true, ltb-false}
-use lib.Dec.{eqb, leb, ltb, lit≤}
+use lib.Dec.{eqb, leb, ltb}
 use lib.ListN.{length, drop, get_or, drop_of_length-le}
 use Rattle.protocol.specs.Bytes.{if}
 use Rattle.protocol.specs.Records.{Rec, free_rec}
@@ -25,17 +25,11 @@ use Rattle.table.proofs.Laws.{at_slot, slots_from}
 use Rattle.table_find.proofs.Laws.{found_some, found_zero, found_is, found_low, found_none}
 use Rattle.visit.specs.Telling.{visit_from, visit_slot, told}
 
-pub is_visit_lem : (r : Rec) (s : ℕ) {k n : ℕ} → k ≡ r.kind → n ≡ r.session → eqb k 7 && eqb n s ≡ is_visit s r
-is_visit_lem r s e f = rw (e, f)
-
 -- A search at slot k with so many visits left to pass: what is left of it says what the whole says
 pub record Seeking (b : List ℕ) (s n left k : ℕ) : Type 0 where
   pub low : 1 ≤ k
   pub high : k ≤ length b / 512
   pub rest : visit_from k s left (drop (k - 1) (decode_table b).slots) ≡ visit_slot s n (decode_table b).slots
-
-pub seek_start : (b : List ℕ) (s n : ℕ) → 512 ≤ length b → Seeking b s n n 1
-seek_start b s n h = record { low = lit≤ tt; high = omega arith; rest = refl }
 
 module _ (b : List ℕ) (s n left k : ℕ) (l : Seeking b s n left k) where
   abbrev slots : List Rec

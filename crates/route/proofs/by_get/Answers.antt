@@ -1,9 +1,6 @@
 -- Each path's own step. Assumes nothing.
-use Rattle.route.proofs.Laws.{lent_logout, get_login, get_logout, get_validate, get_proxy, get_unknown}
+use Rattle.route.proofs.Laws.{get_login, get_logout, get_validate, get_proxy, get_unknown}
 use Rattle.route.proofs.by_get.Goals as goal
-
-pub logout-requires : goal.logout-requires
-logout-requires c = search lent_logout
 
 pub returns-in-Login : goal.returns-in-Login
 returns-in-Login c = search get_login
