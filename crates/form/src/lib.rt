@@ -4,20 +4,21 @@
 
 ghost use Rattle.std.specs.Prelude.{◌≡◌, ◌≤◌, length};
 ghost use Rattle.protocol.specs.Calls.{form_read, form_given, form_of};
+ghost use Rattle.protocol.specs.Refusals.{refusal_number};
 ghost use Rattle.request.specs.Value.{text_of};
 ghost use Rattle.form.specs.Refused.{refused_form};
 
-use protocol::Form;
+use protocol::{Form, Refusal};
 use request::Value;
 
 // The longest body.
 const BODY: usize = 1024;
 
-fn refused(number: u32) -> Form
-    ensures { result ≡ refused_form number }
+fn refused(refusal: Refusal) -> Form
+    ensures { result ≡ refused_form (refusal_number refusal) }
 {
     Form {
-        refusal: number,
+        refusal: refusal.into(),
         username_length: 0,
         password_length: 0,
     }
@@ -47,19 +48,19 @@ pub fn read_form(body: &[u8], username: &mut [u8], password: &mut [u8]) -> Form
     ensures { form_read result username.new password.new ≡ form_of body.now username.old password.old }
 {
     if username.len() < request::SHORT {
-        return refused(4);
+        return refused(Refusal::Sizes);
     }
     if password.len() < request::PASSWORD {
-        return refused(4);
+        return refused(Refusal::Sizes);
     }
     if BODY < body.len() {
-        return refused(5);
+        return refused(Refusal::TooLong);
     }
     let Some(posted) = request::login_body(body) else {
-        return refused(7);
+        return refused(Refusal::Malformed);
     };
     if posted.username.is_absent() | posted.password.is_absent() {
-        return refused(8);
+        return refused(Refusal::Incomplete);
     }
     read_credentials(posted.username, posted.password, username, password)
 }

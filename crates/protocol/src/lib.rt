@@ -130,7 +130,8 @@ pub enum Answer {
     Callback(u32),
 }
 
-// The result of answer and of finish.
+// The result of answer and of finish. Here and in the three results below `refusal` is a number and no `Refusal`: a refused call's
+// result is laid down field by field, the number and 0 in all others, and a host reads the same fields in C.
 #[derive(Clone, Copy)]
 pub struct Outcome {
     pub refusal: u32,

@@ -3,7 +3,6 @@
 #![tactic(auto)]
 
 ghost use Rattle.std.specs.Prelude.{◌≡◌, [], ◌≤◌, length};
-ghost use Rattle.protocol.specs.Bytes.{if};
 ghost use Rattle.protocol.specs.Answers.{number_of, data_of, status_of, serial_of};
 ghost use Rattle.protocol.specs.Answers.{ErrorPage, SignedIn, SignedOut, FormPage, RedirectTo, YesNo, Failure, ProxySuccess, ProxyFailure, CallbackTo};
 ghost use Rattle.protocol.specs.Held.{Said, cookied, cleared_if};
@@ -27,23 +26,15 @@ pub fn number_of(a: Answer) -> u32
     }
 }
 
-pub fn flag_of(b: bool) -> u32
-    ensures { result ≡ if b 1 0 }
-{
-    if b { 1 } else { 0 }
-}
-
 // Its data: 1 where a redirect carries a ticket, text says yes, XML tells of success.
 pub fn data_of(a: Answer) -> u32
     ensures { result ≡ data_of a }
 {
     match a {
-        Answer::Nothing => 0,
-        Answer::Page(_) => 0,
-        Answer::Redirect(ticket) => flag_of(ticket),
-        Answer::Text(yes) => flag_of(yes),
-        Answer::Xml(success) => flag_of(success),
-        Answer::Callback(_) => 0,
+        Answer::Redirect(ticket) => ticket.into(),
+        Answer::Text(yes) => yes.into(),
+        Answer::Xml(success) => success.into(),
+        Answer::Nothing | Answer::Page(_) | Answer::Callback(_) => 0,
     }
 }
 
@@ -51,12 +42,10 @@ fn status_of(a: Answer) -> u32
     ensures { result ≡ status_of a }
 {
     match a {
-        Answer::Nothing => 0,
         Answer::Page(status) => status,
         Answer::Redirect(_) => 303,
-        Answer::Text(_) => 200,
-        Answer::Xml(_) => 200,
-        Answer::Callback(_) => 0,
+        Answer::Text(_) | Answer::Xml(_) => 200,
+        Answer::Nothing | Answer::Callback(_) => 0,
     }
 }
 
@@ -64,12 +53,8 @@ fn serial_of(a: Answer) -> u32
     ensures { result ≡ serial_of a }
 {
     match a {
-        Answer::Nothing => 0,
-        Answer::Page(_) => 0,
-        Answer::Redirect(_) => 0,
-        Answer::Text(_) => 0,
-        Answer::Xml(_) => 0,
         Answer::Callback(serial) => serial,
+        _ => 0,
     }
 }
 
@@ -92,15 +77,9 @@ pub fn told(a: Answer, n: usize) -> Outcome
 pub fn with_cookie(r: Outcome, n: usize) -> Outcome
     ensures { result ≡ cookied n r }
 {
-    let answer = r.answer;
     Outcome {
-        refusal: r.refusal,
-        answer,
-        status: r.status,
-        length: r.length,
         cookie_length: n,
-        cookie_cleared: r.cookie_cleared,
-        callback_serial: r.callback_serial,
+        ..r
     }
 }
 
@@ -108,15 +87,9 @@ pub fn with_cookie(r: Outcome, n: usize) -> Outcome
 pub fn with_cleared(r: Outcome, ended: bool) -> Outcome
     ensures { result ≡ cleared_if ended r }
 {
-    let answer = r.answer;
     Outcome {
-        refusal: r.refusal,
-        answer,
-        status: r.status,
-        length: r.length,
-        cookie_length: r.cookie_length,
         cookie_cleared: ended,
-        callback_serial: r.callback_serial,
+        ..r
     }
 }
 
