@@ -12,7 +12,7 @@ use Rattle.protocol.specs.Table.{Table, decode_table}
 use Rattle.protocol.specs.Register.{decode_register}
 use Rattle.protocol.specs.Request.{value_most, Malformed, Given, asking, asked}
 use Rattle.protocol.specs.Answers.{ErrorPage, SignedIn, RedirectTo}
-use Rattle.protocol.specs.Steps.{Brought, Step, is_named, slot_named, session_of, room_for, form_step, ticket_step, unknown_service, way_of, signed_on, taken, login_get, link_to}
+use Rattle.protocol.specs.Steps.{Step, is_named, slot_named, session_of, room_for, form_step, ticket_step, unknown_service, way_of, signed_on, taken, login_get, link_to}
 use Rattle.protocol.specs.Held.{Fine, In, Lent, Said, Done}
 use Rattle.protocol.specs.Calls.{brought_by}
 use Rattle.protocol.specs.declared.Outcome.{Outcome}
@@ -176,9 +176,3 @@ module _ (q : List ℕ) (x : Option LoginQuery) (k : AskedIn q x) where
     pub get_short : Short 200 a.service
     unfolding value_most among same
     get_short = let f : AskedFits (Some a) = rw e at k.fits in f
-
-    pub get_answered : (b b' o o' : List ℕ) (g : Brought) {r : Outcome} → Done (login_get (Given (asking (text_of a.service) a.renew a.gateway)) g (decode_table b)) r b' o o'
-        → Done (login_get (asked q) g (decode_table b)) r b' o o'
-    get_answered b b' o o' g {r} d =
-        let m : Given (asking (text_of a.service) a.renew a.gateway) ≡ asked q = sym (ap spelled_asked e) ∙ k.spells in
-        rw m at d

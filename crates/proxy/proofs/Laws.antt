@@ -2,7 +2,7 @@
 use mathlib.Core.Path.{◌≡◌, refl, sym, ap, ◌∙◌}
 use mathlib.Core.Bool.{Bool, true, false, ◌||◌}
 use mathlib.Core.List.{List, []}
-use Prim.Native.Nat.{ℕ, ◌≤◌}
+use Prim.Native.Nat.{ℕ}
 use native.Mathlib.Omega.{arith}
 use lib.Dec.{eqb}
 use lib.ListN.{length, take}
@@ -66,9 +66,6 @@ module _ (b o o' known random : List ℕ) (k : ℕ) {r : Outcome} {y : Bool} (l 
 pub grant_found : (b d e : List ℕ) (p : Value) (n : ℕ) {f : Option ℕ} → Wrote d 0 e n (text_of p) → f ≡ found_at (slot_named a_grant (take n e) (decode_table b))
     → f ≡ found_at (slot_named a_grant (text_of p) (decode_table b))
 grant_found b d e p n w x = rw (read_back d e (text_of p) n w) at x
-
-pub grant_short : (p : Value) → Short 64 p → length (text_of p) ≤ 64
-grant_short p h = omega (arith, p.measured, h.fits)
 
 -- `ask`: what the ticket's issue asks for
 pub offered : (b register random o v : List ℕ) (w : ProxyQuery) → Lent b register random o → Values w → v ≡ link_to (text_of w.target) (decode_register register) → Offer b v o

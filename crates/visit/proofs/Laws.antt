@@ -25,6 +25,9 @@ use Rattle.table.proofs.Laws.{at_slot, slots_from}
 use Rattle.table_find.proofs.Laws.{found_some, found_zero, found_is, found_low, found_none}
 use Rattle.visit.specs.Telling.{visit_from, visit_slot, told}
 
+pub is_visit_lem : (r : Rec) (s : ℕ) {k n : ℕ} → k ≡ r.kind → n ≡ r.session → eqb k 7 && eqb n s ≡ is_visit s r
+is_visit_lem r s e f = rw (e, f)
+
 -- A search at slot k with so many visits left to pass: what is left of it says what the whole says
 pub record Seeking (b : List ℕ) (s n left k : ℕ) : Type 0 where
   pub low : 1 ≤ k

@@ -1,6 +1,6 @@
 -- Malformed, or as it is given.
 use borrow.Author.Rules.{rules}
-use Rattle.login_get.proofs.Laws.{get_short, get_malformed, get_answered}
+use Rattle.login_get.proofs.Laws.{get_short, get_malformed}
 use Rattle.login_get.proofs.get.Goals as goal
 
 pub get_given-requires : goal.get_given-requires
@@ -8,6 +8,3 @@ get_given-requires c = (search rules, search get_short)
 
 pub returns-in-None : goal.returns-in-None
 returns-in-None c = search get_malformed
-
-pub returns-in-Some : goal.returns-in-Some
-returns-in-Some c = search get_answered
