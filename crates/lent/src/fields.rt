@@ -1,5 +1,6 @@
 // The fields of a frame, taken one behind the other. Numbers are little-endian; a text has its length before it, a number of four bytes.
-ghost use Rattle.std.specs.Prelude.{◌≡◌, ◌∷◌, [], ◌+◌, ◌<◌, ◌≤◌, length, take, drop, MatchOption, IfSome};
+ghost use Rattle.std.specs.Prelude.{◌≡◌, ◌∷◌, [], ◌<◌, ◌≤◌, length, take, drop, MatchOption, IfSome};
+ghost use Rattle.std.specs.Int.{w32, w64, from_le_bytes};
 
 // What is left of a frame. None says that a field is cut: the frame ends within it.
 #[derive(Drop)]
@@ -28,7 +29,7 @@ impl<'a> Fields<'a> {
     }
 
     pub fn number(&mut self) -> Option<u32>
-        ensures { MatchOption result (length self.old.rest.now < 4) (λ _. self.new.rest.now ≡ drop 4 self.old.rest.now) }
+        ensures { MatchOption result (length self.old.rest.now < 4) (λ n. (n ≡ from_le_bytes w32 (take 4 self.old.rest.now)) × (self.new.rest.now ≡ drop 4 self.old.rest.now)) }
     {
         let (bytes, rest) = self.rest.split_first_chunk()?;
         self.rest = rest;
@@ -36,7 +37,7 @@ impl<'a> Fields<'a> {
     }
 
     pub fn long(&mut self) -> Option<u64>
-        ensures { MatchOption result (length self.old.rest.now < 8) (λ _. self.new.rest.now ≡ drop 8 self.old.rest.now) }
+        ensures { MatchOption result (length self.old.rest.now < 8) (λ n. (n ≡ from_le_bytes w64 (take 8 self.old.rest.now)) × (self.new.rest.now ≡ drop 8 self.old.rest.now)) }
     {
         let (bytes, rest) = self.rest.split_first_chunk()?;
         self.rest = rest;
@@ -54,7 +55,9 @@ impl<'a> Fields<'a> {
         Some(n)
     }
 
-    pub fn text(&mut self) -> Option<&'a [u8]> {
+    pub fn text(&mut self) -> Option<&'a [u8]>
+        ensures { IfSome result (λ text. text.now ≡ take (from_le_bytes w32 (take 4 self.old.rest.now)) (drop 4 self.old.rest.now)) }
+    {
         let n = self.number()? as usize;
         let (text, rest) = self.rest.split_at_checked(n)?;
         self.rest = rest;

@@ -1,5 +1,5 @@
-// What the programs that read frames share: input read into a lent buffer, parts of lent buffers, the fields of a frame, the frames of an
-// answer and of a visit, and why a frame ends a program.
+// What the programs that read frames share: input read into a lent buffer, bytes kept from frame to frame, the fields of a frame, the frames
+// of an answer and of a visit, and why a frame ends a program.
 #![tactic(auto)]
 
 mod bad;
@@ -8,7 +8,7 @@ mod kept;
 mod question;
 mod request;
 
-ghost use Rattle.std.specs.Prelude.{◌≡◌, ◌≤◌, length, take, IfOk, OnErr};
+ghost use Rattle.std.specs.Prelude.{◌≡◌, length, take, IfOk, OnErr};
 ghost use Rattle.lent.specs.Counts.{IsPrefixLen};
 
 pub use bad::Bad;
@@ -34,14 +34,6 @@ pub fn read_full(input: &mut impl Read, buf: &mut [u8]) -> io::Result<usize>
         done += n;
     }
     Ok(done)
-}
-
-// The smaller of n and the number of buf's bytes.
-pub fn within(n: usize, buf: &[u8]) -> usize
-    ensures prefix_len { IsPrefixLen result buf.now }
-    ensures upper_bound { result ≤ n }
-{
-    n.min(buf.len())
 }
 
 // The first n bytes of s, or all where it has fewer.
