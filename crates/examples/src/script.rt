@@ -71,9 +71,15 @@ impl Cases {
 
     fn step(&mut self, output: &mut impl Write, line: &[u8]) -> io::Result<()> {
         match line.first() {
-            Some(b'n') => show_refusal(output, protocol::number_of(signon::format(&mut self.table, time_of(line)))),
+            Some(b'n') => show_refusal(
+                output,
+                protocol::number_of(signon::format(&mut self.table, time_of(line))),
+            ),
             Some(b'c') => show_refusal(output, protocol::number_of(signon::check(&self.table))),
-            Some(b'h') => show_refusal(output, protocol::number_of(signon::housekeep(&mut self.table, time_of(line)))),
+            Some(b'h') => show_refusal(
+                output,
+                protocol::number_of(signon::housekeep(&mut self.table, time_of(line))),
+            ),
             Some(b'g') => self.get(output, line),
             Some(b'p') => self.post(output, line),
             Some(b'f') => self.finish(output, line),

@@ -8,6 +8,7 @@ ghost use Rattle.protocol.specs.Held.{Lawful, Said, Does, said_at};
 ghost use Rattle.finish.specs.Waits.{Waits, told_of, granted, refused, settled};
 
 use protocol::Outcome;
+use ticket::Kind;
 use xml::Code;
 
 // Success of the waiting grant in a slot: its session's user, by the mark that it keeps, an IOU if it is not empty, and the proxies from its parent on.
@@ -30,7 +31,7 @@ fn grant(table: &mut [u8], slot: usize, out: &mut [u8]) -> Outcome
     let mut iou = [0u8; 64];
     let n = ticket::put_iou(&mut iou, 0, table::iou_of(table, slot));
     let told = tell(table, slot, &iou[..n], out);
-    table::turn(table, slot, ticket::Grant::KIND);
+    table::turn(table, slot, Kind::Grant);
     told
 }
 

@@ -12,6 +12,7 @@ ghost use Rattle.issue.specs.Offers.{Offer};
 
 use protocol::{Brings, Outcome, Way};
 use request::LoginQuery;
+use ticket::Kind;
 
 // Which way the query goes, by its service as the register has it.
 fn way_of(table: &[u8], query: LoginQuery<'_>, service: &[u8], cookie: &[u8]) -> Way
@@ -25,7 +26,7 @@ fn way_of(table: &[u8], query: LoginQuery<'_>, service: &[u8], cookie: &[u8]) ->
     if query.renew {
         return Way::Form;
     }
-    match table_find::find_named(table, ticket::Session::KIND, cookie) {
+    match table_find::find_named(table, Kind::Session, cookie) {
         Some(s) => Way::SignedOn(s),
         None if query.gateway & !service.is_empty() => Way::Away,
         None => Way::Form,

@@ -13,6 +13,7 @@ ghost use Rattle.login_post.specs.Given.{slot_if, posted_by, Spent, Supplied};
 
 use protocol::{Admission, Brings, Outcome};
 use request::{LoginBody, Value};
+use ticket::Kind;
 
 // The live login ticket of this text is removed; whether there was one is answered.
 fn spend(table: &mut [u8], lt: Value<'_>) -> bool
@@ -21,7 +22,7 @@ fn spend(table: &mut [u8], lt: Value<'_>) -> bool
 {
     let mut text = [0u8; 64];
     let n = lt.read(&mut text);
-    match table_find::find_named(table, ticket::Login::KIND, &text[..n]) {
+    match table_find::find_named(table, Kind::Login, &text[..n]) {
         Some(k) => {
             table::free_record(table, k);
             true

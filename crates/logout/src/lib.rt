@@ -11,13 +11,14 @@ ghost use Rattle.logout.specs.Leaving.{Given, leaving};
 
 use protocol::{Brings, Outcome};
 use request::Value;
+use ticket::Kind;
 
 // The cookie's live session ends, where there is one.
 fn end_named(table: &mut [u8], cookie: &[u8])
     requires { Fine table.old }
     ensures { Holds table.new (without_session cookie.now (decode_table table.old)) }
 {
-    match table_find::find_named(table, ticket::Session::KIND, cookie) {
+    match table_find::find_named(table, Kind::Session, cookie) {
         Some(s) => table_edit::end_session(table, s),
         None => {}
     }

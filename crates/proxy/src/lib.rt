@@ -14,6 +14,7 @@ ghost use Rattle.proxy.specs.Asking.{proxy_under, proxy_for, Live, Values};
 
 use protocol::{Brings, Outcome};
 use request::{ProxyQuery, Value};
+use ticket::Kind;
 use xml::Code;
 
 // Under the live grant in slot k. An empty target is one that is not registered.
@@ -38,7 +39,7 @@ fn find_given(table: &[u8], pgt: Value<'_>) -> Option<usize>
 {
     let mut text = [0u8; 64];
     let n = pgt.read(&mut text);
-    table_find::find_named(table, ticket::Grant::KIND, &text[..n])
+    table_find::find_named(table, Kind::Grant, &text[..n])
 }
 
 // The target is compared where it lies.

@@ -3,7 +3,6 @@ use mathlib.Core.Path.{◌≡◌, sym, ap, ◌∙◌}
 use mathlib.Core.Bool.{Bool, true, false, ◌&&◌, not}
 use mathlib.Core.List.{List}
 use Prim.Native.Nat.{ℕ}
-use borrow.Author.Tests.{eq-eqb, ne_eqb}
 use lib.Dec.{eqb}
 use Rattle.protocol.specs.Bytes.{same}
 use Rattle.protocol.specs.Records.{Rec}
@@ -12,18 +11,18 @@ use Rattle.protocol.specs.declared.Validator.{Validator}
 use Rattle.protocol.specs.declared.Ruling.TheVariants as ruling
 use Rattle.request.proofs.Laws.{same_either}
 
-pub parent_of-proxy : (r : Rec) (k p : ℕ) → k ≡ r.kind → k ≡ 4 → p ≡ r.parent → p ≡ proxy_parent r
-parent_of-proxy r k p e h q = let z : eqb r.kind 4 ≡ true = eq-eqb r.kind 4 (sym e ∙ h) in rw z q
+pub parent_of-proxy : (r : Rec) (k : Bool) (p : ℕ) → k ≡ eqb r.kind 4 → k ≡ true → p ≡ r.parent → p ≡ proxy_parent r
+parent_of-proxy r k p e h q = rw (← e, h) q
 
-pub parent_of_none : (r : Rec) (k : ℕ) → k ≡ r.kind → (k ≡ 4 → ⊥) → 0 ≡ proxy_parent r
-parent_of_none r k e h = let z : eqb r.kind 4 ≡ false = ne_eqb r.kind 4 (λ x. h (e ∙ x)) in rw z
+pub parent_of_none : (r : Rec) (k : Bool) → k ≡ eqb r.kind 4 → k ≡ false → 0 ≡ proxy_parent r
+parent_of_none r k e h = rw (← e, h)
 
-module _ (v : Validator) (renew : Bool) (service : List ℕ) (r : Rec) (k : ℕ) (refuses : Bool) (e : k ≡ r.kind) (f : refuses ≡ not (takes_proxies v)) where
-  pub foreign : eqb k 4 && refuses ≡ true → ruling.NoTicket ≡ ruling_of v renew service r
+module _ (v : Validator) (renew : Bool) (service : List ℕ) (r : Rec) (k refuses : Bool) (e : k ≡ eqb r.kind 4) (f : refuses ≡ not (takes_proxies v)) where
+  pub foreign : k && refuses ≡ true → ruling.NoTicket ≡ ruling_of v renew service r
   unfolding ruling_of
   foreign h = let z : eqb r.kind 4 && not (takes_proxies v) ≡ true = rw (sym e, sym f) h in rw z
 
-  module _ (m : ℕ) (g : m ≡ r.mark) (h : eqb k 4 && refuses ≡ false) where
+  module _ (m : ℕ) (g : m ≡ r.mark) (h : k && refuses ≡ false) where
     native : eqb r.kind 4 && not (takes_proxies v) ≡ false
     native = rw (sym e, sym f) h
 

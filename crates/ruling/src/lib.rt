@@ -8,6 +8,7 @@ ghost use Rattle.request.specs.Value.{text_of};
 
 use protocol::{Ruling, Validator};
 use request::Value;
+use ticket::Kind;
 
 // Only proxyValidate takes proxy tickets.
 fn refuses_proxies(validator: Validator) -> bool
@@ -21,7 +22,7 @@ fn proxy_parent(table: &[u8], slot: usize) -> u16
     requires { In slot table.now }
     ensures { result ≡ proxy_parent (said_at slot table.now) }
 {
-    if table::kind_of(table, slot) == ticket::Proxy::KIND {
+    if table::has_kind(table, slot, Kind::Proxy) {
         return table::parent_of(table, slot);
     }
     0
@@ -39,7 +40,7 @@ pub fn ruling_of(
     ensures { result ≡ ruling_of validator renew (text_of service.entry) (said_at slot table.now) }
 {
     let its_own = service.is_text(table::text_of(table, slot));
-    if (table::kind_of(table, slot) == ticket::Proxy::KIND) & refuses_proxies(validator) {
+    if table::has_kind(table, slot, Kind::Proxy) & refuses_proxies(validator) {
         return Ruling::NoTicket;
     }
     if renew & (table::mark_of(table, slot) == 0) {

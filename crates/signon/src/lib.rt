@@ -3,13 +3,13 @@
 // the first of the list that applies, and then nothing is written; or it does what the protocol says.
 #![tactic(auto)]
 
-ghost use Rattle.std.specs.Prelude.{◌≡◌, []};
+ghost use Rattle.std.specs.Prelude.{◌≡◌, [], length};
 ghost use Rattle.protocol.specs.Calls.{refused_outcome, numbered, format_of, housekeep_of, check_of, form_read, form_of, inputs, result_of, answer_of, finish_of};
 ghost use Rattle.protocol.specs.Refusals.{refusal_number, number_of_result};
 ghost use Rattle.protocol.specs.Visits.{visit_read, visit_of};
 ghost use Rattle.protocol.specs.Panels.{made, panel_of, fault_of};
 
-use protocol::{Answer, Fault, Form, Method, Outcome, Refusal, Visit};
+use protocol::{Answer, Brings, Fault, Form, Method, Outcome, Refusal, Visit};
 use refusal::Sizes;
 
 // A refused call's result: its number, all else 0.
@@ -25,6 +25,14 @@ fn refused(refusal: Refusal) -> Outcome
         cookie_cleared: false,
         callback_serial: 0,
     }
+}
+
+// The random input, whose length was judged.
+fn drawn<'a>(random: &'a [u8]) -> &'a [u8; 48]
+    requires { length random.now ≡ 48 }
+    ensures { result.now ≡ random.now }
+{
+    random.try_into().unwrap()
 }
 
 // A fresh table, whatever the bytes were.
@@ -88,9 +96,13 @@ pub fn answer(
         return refused(refusal);
     }
     table_edit::tick(table, time); // what is dead by then stays in its slot
-    route::request(
-        table, register, method, target, body, cookie, random, verdict, out, cookie_out,
-    )
+    let brings = Brings {
+        register,
+        cookie,
+        random: drawn(random),
+        verdict,
+    };
+    route::request(table, method, target, body, brings, out, cookie_out)
 }
 
 // The outcome of the callback of a serial, yes only after a good certificate and a 200.
@@ -122,7 +134,7 @@ pub fn visit(
             length: 0,
         };
     }
-    visit::tell(table, cookie, number, time, random, out)
+    visit::tell(table, cookie, number, time, drawn(random), out)
 }
 
 // The register block of a service and a callback, check included.

@@ -3,7 +3,6 @@ use mathlib.Core.Path.{◌≡◌, refl, sym, ap, ◌∙◌}
 use mathlib.Core.Bool.{Bool, true, false, cond}
 use mathlib.Core.List.{List, [], ◌∷◌, ◌++◌, append_assoc}
 use Prim.Native.Nat.{ℕ, zero, suc, ◌+◌, ◌-◌, ◌*◌, ◌/◌, ◌≤◌, ◌<◌}
-use native.Mathlib.Nat.{zero-add}
 use native.Mathlib.Omega.{arith}
 use native.Mathlib.Numerals.{add-one}
 use lib.Dec.{eqb, lit≤}
@@ -237,14 +236,15 @@ head_filled n c x s g e7 e6 e5 e4 e3 e2 e1 =
 -- A block's kind turned
 
 -- its writes in a row
-pub turn_wrote : (kind e : ℕ) (s : List ℕ) {l1 l2 l3 l4 l5 : List ℕ}
+pub turn_wrote : (kind e : ℕ) (s : List ℕ) {k : ℕ} {l1 l2 l3 l4 l5 : List ℕ}
+    → k ≡ kind
     → l5 ≡ sealed (take 508 l4)
     → l4 ≡ spliced l3 256 (zeros 16)
     → l3 ≡ spliced l2 16 (bytes_of 8 e)
     → l2 ≡ spliced l1 1 (0 ∷ [])
-    → l1 ≡ spliced s 0 (kind ∷ [])
+    → l1 ≡ spliced s 0 (k ∷ [])
     → l5 ≡ sealed (take 508 (turned_bytes kind e s))
-turn_wrote kind e s e5 e4 e3 e2 e1 = rw (e5, e4, e3, e2, e1)
+turn_wrote kind e s q e5 e4 e3 e2 e1 = rw (e5, e4, e3, e2, e1, q)
 
 -- a text in the middle overwritten by one as long
 spliced_mid : (a p y c : List ℕ) (at : ℕ) → length a ≡ at → length p ≡ length y → spliced (a ++ (p ++ c)) at y ≡ a ++ (y ++ c)

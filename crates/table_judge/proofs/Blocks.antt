@@ -1,5 +1,7 @@
 -- A slot passes exactly where its block is its record's, that record keeps the rules, and no later one has its serial; a free slot
 -- passes exactly where its block is the free record's. Assumes nothing.
+use borrow.Author.Tests.{eqb-true}
+use lib.Dec.{eqb}
 use mathlib.Core.Path.{◌≡◌, refl, sym, ap, ◌∙◌}
 use mathlib.Core.Bool.{Bool, true, ◌&&◌}
 use mathlib.Core.List.{List}
@@ -80,7 +82,7 @@ module _ (clock next : ℕ) (b : List ℕ) (k : ℕ) (i : In k b) (y : Bytes b) 
         let f : r ≡ free_rec = said ∙ ap decode_rec q ∙ rec_back free_rec free_fits in
         made (record { rule = rw f (free_right clock next slots); block = q ∙ ap encode_rec (sym f); lone = sym (alone_free b k {f = fields_of r} refl free) })
 
-  pub free_slot : {bl : List ℕ} {t : Bool} {kind : ℕ} → kind ≡ (said_at k b).kind → kind ≡ 0 → Block k b bl → t ≡ same bl (encode_rec free_rec) → t ≡ slot_right clock next b k
+  pub free_slot : {bl : List ℕ} {t x : Bool} → x ≡ eqb (said_at k b).kind 0 → x ≡ true → Block k b bl → t ≡ same bl (encode_rec free_rec) → t ≡ slot_right clock next b k
   free_slot e z at f =
-      let free : (said_at k b).kind ≡ 0 = sym e ∙ z in
+      let free : (said_at k b).kind ≡ 0 = eqb-true (said_at k b).kind 0 (sym e ∙ z) in
       f ∙ rw at.is (one_test (same (block_at k b) (encode_rec free_rec)) (slot_right clock next b k) (free_made free) (free_told free))

@@ -32,8 +32,8 @@ module _ (r : Rec) (serial : ℕ) {s : ℕ} (e : s ≡ r.serial) where
   pub serial_other : (s ≡ serial → ⊥) → false ≡ has_serial serial r
   serial_other z = sym (rw (ne_eqb r.serial serial (λ x. z (e ∙ x))) (and-false (not (eqb r.kind 0))))
 
-  pub serial_own : {k : ℕ} → s ≡ serial → k ≡ r.kind → not (eqb k 0) ≡ has_serial serial r
-  serial_own {k} z f = rw (f, eq-eqb r.serial serial (sym e ∙ z)) (sym (and-true (not (eqb r.kind 0))))
+  pub serial_own : {x : Bool} → s ≡ serial → x ≡ eqb r.kind 0 → not x ≡ has_serial serial r
+  serial_own {x} z f = rw (f, eq-eqb r.serial serial (sym e ∙ z)) (sym (and-true (not (eqb r.kind 0))))
 
 -- the records that it names
 pub session_is : (slots : List Rec) (r : Rec) → session_right slots r ≡ session_test (fields_of r) (fields_of (rec_at r.session slots))

@@ -9,34 +9,35 @@ ghost use Rattle.protocol.specs.Held.{In, said_at};
 ghost use Rattle.table_judge.specs.Tests.{from_slot, session_test, parent_test, has_serial, alone_at, slot_right, all_from};
 
 use table::Fields;
+use ticket::Kind;
 
 // A record and the session that it names.
 fn session_right(f: Fields, s: Fields) -> bool
     ensures { result ≡ session_test f s }
 {
-    if f.kind < ticket::Service::KIND {
+    if f.kind < Kind::Service as u8 {
         return f.session == 0;
     }
-    let lasts = if (f.kind == ticket::Grant::KIND) | (f.kind == ticket::Visit::KIND) {
+    let lasts = if (f.kind == Kind::Grant as u8) | (f.kind == Kind::Visit as u8) {
         f.expiry == s.expiry
     } else {
         f.expiry <= s.expiry
     };
-    (s.kind == ticket::Session::KIND) & lasts
+    (s.kind == Kind::Session as u8) & lasts
 }
 
 // A record and the parent that it names.
 fn parent_right(f: Fields, p: Fields) -> bool
     ensures { result ≡ parent_test f p }
 {
-    if f.kind < ticket::Service::KIND {
+    if f.kind < Kind::Service as u8 {
         return f.parent == 0;
     }
-    if (f.kind == ticket::Service::KIND) | (f.kind == ticket::Visit::KIND) {
+    if (f.kind == Kind::Service as u8) | (f.kind == Kind::Visit as u8) {
         return f.parent == f.session;
     }
-    let under = (p.kind == ticket::Grant::KIND) & (p.session == f.session);
-    if f.kind == ticket::Proxy::KIND {
+    let under = (p.kind == Kind::Grant as u8) & (p.session == f.session);
+    if f.kind == Kind::Proxy as u8 {
         return under;
     }
     if f.depth == 1 {
@@ -53,7 +54,7 @@ fn has_serial(table: &[u8], slot: usize, serial: u32) -> bool
     if table::serial_of(table, slot) != serial {
         return false;
     }
-    table::kind_of(table, slot) != ticket::FREE
+    !table::has_kind(table, slot, Kind::Free)
 }
 
 // Has a record behind slot k this serial?
@@ -69,7 +70,7 @@ fn serial_alone(table: &[u8], n: usize, k: usize, f: Fields) -> bool
     requires { (length table.now ≡ 512 * n) × (k < n) × (f ≡ fields_of (said_at k table.now)) }
     ensures { result ≡ alone_at k table.now }
 {
-    if f.kind == ticket::FREE {
+    if f.kind == Kind::Free as u8 {
         return true;
     }
     !serial_taken(table, n, k, f.serial)
@@ -97,7 +98,7 @@ fn slot_right(table: &[u8], n: usize, clock: u64, next: u32, k: usize) -> bool
     requires { (length table.now ≡ 512 * n) × (clock ≤ last_time) × (1 ≤ k) × (k < n) }
     ensures { result ≡ slot_right clock next table.now k }
 {
-    if table::kind_of(table, k) == ticket::FREE {
+    if table::has_kind(table, k, Kind::Free) {
         return table::is_free(table::block_at(table, k));
     }
     held_right(table, n, clock, next, k)
@@ -128,7 +129,7 @@ fn blocks_lawful(table: &[u8], n: usize) -> bool
         let next = table::next_of(table);
         return block::block_ok(table, 0)
             & slots_right(table, n, clock, next)
-            & (table::count_kind(table, ticket::Login::KIND) <= ticket::Login::MOST);
+            & (table::count_kind(table, Kind::Login) <= ticket::Login::MOST);
     }
     false
 }

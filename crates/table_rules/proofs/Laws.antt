@@ -1,6 +1,6 @@
 -- What the code computes of a block is what protocol says of it. Assumes nothing.
 use mathlib.Core.Path.{◌≡◌, refl, sym, ap, ◌∙◌}
-use mathlib.Core.Bool.{Bool, true, false, ◌&&◌, ◌||◌}
+use mathlib.Core.Bool.{Bool, true, false, ◌&&◌, ◌||◌, and-true}
 use mathlib.Core.List.{List, [], ◌∷◌}
 use Prim.Native.Nat.{ℕ, ◌+◌, ◌-◌, ◌<◌, ◌≤◌}
 use native.Mathlib.Omega.{arith}
@@ -17,8 +17,10 @@ use Rattle.protocol.specs.Table.{head_body}
 use Rattle.protocol.proofs.Laws.{both, length_bytes, length_pad, text_most_lem, part-long, and-false, one_test}
 use Rattle.protocol.proofs.Sizes.{secret_most}
 use Rattle.ticket.specs.declared.Limits.{Limits}
-use Rattle.ticket.specs.Kinds.{limits_of}
-use Rattle.ticket.proofs.Laws.{limited}
+use Rattle.ticket.specs.declared.Kind.{Kind}
+use Rattle.ticket.specs.declared.Kind.TheVariants.{Free, Session, Waiting}
+use Rattle.ticket.specs.Kinds.{number, limits_of}
+use Rattle.ticket.proofs.Laws.{limited, number_most, other_number}
 use Rattle.table.specs.declared.Fields.{Fields}
 use Rattle.table.specs.Parts.{fields_of}
 use Rattle.table_rules.specs.Tests.{limits_right, life_right, since_test, secrets_right, text_right, gaps_zero, record_right, head_right}
@@ -116,21 +118,17 @@ module _ (b : List ℕ) (h : 512 ≤ length b) (y : (i : ℕ) → get_or b i 0 <
 
 -- What the code knows at its returns
 
-pub limits_high : (f : Fields) (n : ℕ) → 7 < f.kind → false ≡ limits_right f n
-unfolding limits_right
-limits_high f n h = rw (lt-leb f.kind 7 h)
-
-pub limits_low : (f : Fields) (n : ℕ) {l : Limits} → f.kind ≤ 7 → l ≡ limits_of f.kind
+pub limits_low : (f : Fields) (n : ℕ) (w : Kind) {l : Limits} → f.kind ≡ number w → l ≡ limits_of (number w)
     → leb f.mark l.mark_most && (leb l.depth_least f.depth && leb f.depth l.depth_most) && (leb l.text_least n && leb n l.text_most) ≡ limits_right f n
 unfolding limits_right
-limits_low f n h e =
-    let m = limited f.kind e in
-    rw (le-leb f.kind 7 h, m.mark, m.shallow, m.deep, m.short, m.long)
+limits_low f n w k e =
+    let m = limited (number w) e in
+    rw (k, le-leb (number w) 7 (number_most w), m.mark, m.shallow, m.deep, m.short, m.long)
 
 -- within the limits the text is short
-pub limits_short : (f : Fields) (n : ℕ) {good : Bool} → good ≡ limits_right f n → good ≡ true → n ≤ 200
+pub limits_short : (f : Fields) (n : ℕ) {x : ℕ} {good : Bool} → good ≡ limits_right f n → good ≡ true → x ≡ n → x ≤ 200
 unfolding limits_right
-limits_short f n e g =
+limits_short f n e g z =
     let k : ℕ = f.kind in
     let p = both (leb k 7) (leb f.mark (mark_most k) && within (depth_least k) (depth_most k) f.depth && within (text_least k) (text_most k) n) (sym e ∙ g) in
     let q = both (leb f.mark (mark_most k) && within (depth_least k) (depth_most k) f.depth) (within (text_least k) (text_most k) n) p.1 in
@@ -147,28 +145,41 @@ pub serial_right_lem : (next serial : ℕ) → leb 1 serial && (eqb next 0 || lt
 unfolding serial_right
 serial_right_lem next serial = rw (either (eqb next 0) (ltb serial next))
 
-module _ (f : Fields) (clock next : ℕ) where
-  pub life_free : f.kind ≡ 0 → eqb f.serial 0 && eqb f.expiry 0 ≡ life_right clock next f
+module _ (f : Fields) (clock next : ℕ) {w : Kind} (k : f.kind ≡ number w) where
+  pub life_free : w ≡ Free → eqb f.serial 0 && eqb f.expiry 0 ≡ life_right clock next f
   unfolding life_right
-  life_free z = rw (eq-eqb f.kind 0 z)
+  life_free z = rw (k, z)
 
-  pub life_held : {m : ℕ} {s : Bool} → (f.kind ≡ 0 → ⊥) → s ≡ serial_right next f.serial → m ≡ lifetime f.kind → s && leb f.expiry (clock + m) ≡ life_right clock next f
+  pub life_held : {m : ℕ} {s : Bool} → (w ≡ Free → ⊥) → s ≡ serial_right next f.serial → m ≡ lifetime (number w) → s && leb f.expiry (clock + m) ≡ life_right clock next f
   unfolding life_right
-  life_held z a b = rw (ne_eqb f.kind 0 z, a, b)
+  life_held z a b = rw (k, other_number w Free z, a, b)
 
-pub secrets_right_lem : (b : List ℕ) (kind : ℕ) {m : ℕ} {r i : Bool} → m ≡ secret_length kind → r ≡ all_within 0 0 (part (24 + m) (40 - (24 + m)) b) → i ≡ all_within 0 0 (part 256 16 b)
-    → r && (eqb kind 5 || i) ≡ secrets_right kind b
-unfolding secrets_right
-secrets_right_lem b kind {m} {r} {i} a x y =
-    let e : 40 - (24 + m) ≡ 16 - m = omega arith in
-    rw (either (eqb kind 5) i, y, x, e, a)
+  pub since_session : w ≡ Session → leb f.since clock ≡ since_test clock f
+  since_session z = rw (k, z)
 
-module _ (kind : ℕ) (s : List ℕ) {r : Bool} where
-  pub letters_name : kind ≡ 2 → r ≡ name_right s → r ≡ letters_right kind s
-  letters_name e q = rw (eq-eqb kind 2 e, q)
+  pub since_other : (w ≡ Session → ⊥) → eqb f.since 0 ≡ since_test clock f
+  since_other z = rw (k, other_number w Session z)
 
-  pub letters_plain : (kind ≡ 2 → ⊥) → r ≡ all_within 32 126 s → r ≡ letters_right kind s
-  letters_plain e q = rw (ne_eqb kind 2 e, q)
+module _ (b : List ℕ) (w : Kind) {m : ℕ} {r : Bool} (a : m ≡ secret_length (number w)) (x : r ≡ all_within 0 0 (part (24 + m) (40 - (24 + m)) b)) where
+  rest_zero : r ≡ all_within 0 0 (part (24 + secret_length (number w)) (16 - secret_length (number w)) b)
+  rest_zero =
+      let e : 40 - (24 + m) ≡ 16 - m = omega arith in
+      rw (x, e, a)
+
+  pub secrets_waiting : w ≡ Waiting → r ≡ secrets_right (number w) b
+  unfolding secrets_right
+  secrets_waiting z = rest_zero ∙ rw z (sym (and-true _))
+
+  pub secrets_other : {i : Bool} → (w ≡ Waiting → ⊥) → i ≡ all_within 0 0 (part 256 16 b) → r && i ≡ secrets_right (number w) b
+  unfolding secrets_right
+  secrets_other z y = rw (other_number w Waiting z, y, rest_zero)
+
+module _ (w : Kind) (s : List ℕ) {r : Bool} where
+  pub letters_name : w ≡ Session → r ≡ name_right s → r ≡ letters_right (number w) s
+  letters_name e q = rw (e, q)
+
+  pub letters_plain : (w ≡ Session → ⊥) → r ≡ all_within 32 126 s → r ≡ letters_right (number w) s
+  letters_plain e q = rw (other_number w Session e, q)
 
 pub text_right_lem : (b : List ℕ) (kind n : ℕ) {r z : Bool} → r ≡ letters_right kind (part 44 (44 + n - 44) b) → z ≡ all_within 0 0 (part (44 + n) (256 - (44 + n)) b) → r && z ≡ text_right kind n b
 unfolding text_right
@@ -211,6 +222,14 @@ in_order s i t rest g7 g12 g42 g280 v life = one_test _ _ there back
         let q4 = both rest g280 q3.1 in
         rw (p1.0, p2.1, p1.1, q4.0, q1.0, q2.0, q3.0, q4.1, p3.1, p4.1)
 
+-- a record of no kind is wrong
+pub record_none : (c n : ℕ) (b : List ℕ) {f : Fields} → length b ≡ 512 → f ≡ fields_of (decode_rec b) → 7 < f.kind → false ≡ record_right c n b
+unfolding limits_right
+record_none c n b {f} h e g =
+    let none : limits_right f (num 40 2 b) ≡ false = rw (lt-leb f.kind 7 g) in
+    let w : limits_right (fields_of (decode_rec b)) (num 40 2 b) ≡ false = rw e at none in
+    sym (rw (own_limits c n b h, w))
+
 -- a record outside its limits is wrong
 pub record_wrong : (c n : ℕ) (b : List ℕ) {f : Fields} {m : ℕ} {good : Bool} → length b ≡ 512 → f ≡ fields_of (decode_rec b) → m ≡ num 40 2 b → good ≡ limits_right f m → good ≡ false
     → false ≡ record_right c n b
@@ -219,17 +238,17 @@ record_wrong c n b h e l g z =
     sym (rw (own_limits c n b h, w))
 
 -- within them its bytes decide
-pub record_right_lem : (c n : ℕ) (b : List ℕ) {f : Fields} {m : ℕ} {good s t g v l : Bool} → length b ≡ 512 → Bytes b
+pub record_right_lem : (c n : ℕ) (b : List ℕ) (kind : Kind) {f : Fields} {m x : ℕ} {good s t g v l : Bool} → length b ≡ 512 → Bytes b → number kind ≡ f.kind → x ≡ m
     → f ≡ fields_of (decode_rec b) → m ≡ num 40 2 b → good ≡ limits_right f m → good ≡ true
-    → s ≡ secrets_right f.kind b → t ≡ text_right f.kind m b → g ≡ gaps_zero b → v ≡ since_test c f → l ≡ life_right c n f
+    → s ≡ secrets_right (number kind) b → t ≡ text_right (number kind) x b → g ≡ gaps_zero b → v ≡ since_test c f → l ≡ life_right c n f
     → s && t && g && v && l ≡ record_right c n b
 unfolding secrets_right text_right gaps_zero decode_rec
-record_right_lem c n b h y e l g z a p q u r =
+record_right_lem c n b kind h y i j e l g z a p q u r =
     let k : ℕ = get_or b 0 0 in
     let m : ℕ = num 40 2 b in
     let w : limits_right (fields_of (decode_rec b)) (num 40 2 b) ≡ true = rw (e, l) at (sym g ∙ z) in
-    let short : num 40 2 b ≤ 200 = limits_short (fields_of (decode_rec b)) (num 40 2 b) (sym w) refl in
-    rw (a, p, q, u, r, e, l, own_limits c n b h, w, body_own b (omega arith) y.each short)
+    let short : num 40 2 b ≤ 200 = limits_short (fields_of (decode_rec b)) (num 40 2 b) (sym w) refl refl in
+    rw (a, p, q, u, r, i, j, e, l, own_limits c n b h, w, body_own b (omega arith) y.each short)
     (in_order (all_within 0 0 (part (24 + secret_length k) (16 - secret_length k) b)) (if (eqb k a_waiting) true (all_within 0 0 (part 256 16 b))) (letters_right k (part 44 m b)) (all_within 0 0 (part (44 + m) (212 - m) b))
     (all_within 0 0 (part 7 1 b)) (all_within 0 0 (part 12 4 b)) (all_within 0 0 (part 42 2 b)) (all_within 0 0 (part 280 228 b)) (since_test c (fields_of (decode_rec b))) (life_right c n (fields_of (decode_rec b))))
 

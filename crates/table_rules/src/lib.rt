@@ -5,24 +5,24 @@
 ghost use Rattle.std.specs.Prelude.{◌≡◌, ◌+◌, ◌≤◌, ◌<◌, length};
 ghost use Rattle.protocol.specs.Records.{decode_rec, serial_right, letters_right};
 ghost use Rattle.protocol.specs.Table.{last_time};
+ghost use Rattle.ticket.specs.Kinds.{number};
 ghost use Rattle.table.specs.Parts.{fields_of};
 ghost use Rattle.table_rules.specs.Tests.{limits_right, life_right, since_test, secrets_right, text_right, gaps_zero, record_right, head_right};
 
 use table::Fields;
+use ticket::Kind;
 
 // The latest time.
 const LAST_TIME: u64 = 1099511627776;
 
 // ---- a record
 
-// Mark, depth and length of text are as the kind allows, and there is such a kind.
-fn limits_right(f: Fields, length: u16) -> bool
+// Mark, depth and length of text are as the kind allows.
+fn limits_right(kind: Kind, f: Fields, length: u16) -> bool
+    requires { f.kind ≡ number kind }
     ensures { result ≡ limits_right f length }
 {
-    if ticket::Visit::KIND < f.kind {
-        return false;
-    }
-    let limits = ticket::limits_of(f.kind);
+    let limits = kind.limits();
     (f.mark <= limits.mark_most)
         & ((limits.depth_least <= f.depth) & (f.depth <= limits.depth_most))
         & ((limits.text_least <= length) & (length <= limits.text_most))
@@ -36,51 +36,53 @@ fn serial_right(next: u32, serial: u32) -> bool
 }
 
 // A free record has neither serial nor expiry, another's are right.
-fn life_right(f: Fields, clock: u64, next: u32) -> bool
-    requires { clock ≤ last_time }
+fn life_right(kind: Kind, f: Fields, clock: u64, next: u32) -> bool
+    requires { (f.kind ≡ number kind) × (clock ≤ last_time) }
     ensures { result ≡ life_right clock next f }
 {
-    if f.kind == ticket::FREE {
-        return (f.serial == 0) & (f.expiry == 0);
+    match kind {
+        Kind::Free => (f.serial == 0) & (f.expiry == 0),
+        _ => serial_right(next, f.serial) & (f.expiry <= clock + kind.lifetime()),
     }
-    let held = f.expiry <= clock + ticket::lifetime_of(f.kind);
-    serial_right(next, f.serial) & held
 }
 
 // A session was made at T at the latest; other kinds have no sign-on time.
-fn since_right(f: Fields, clock: u64) -> bool
+fn since_right(kind: Kind, f: Fields, clock: u64) -> bool
+    requires { f.kind ≡ number kind }
     ensures { result ≡ since_test clock f }
 {
-    if f.kind == ticket::Session::KIND {
-        return f.since <= clock;
+    match kind {
+        Kind::Session => f.since <= clock,
+        _ => f.since == 0,
     }
-    f.since == 0
 }
 
 // The rest of a short secret is zero, and so is the IOU secret of any kind but a waiting grant.
-fn secrets_right(block: &[u8; 512], kind: u8) -> bool
-    ensures { result ≡ secrets_right kind block.now }
+fn secrets_right(block: &[u8; 512], kind: Kind) -> bool
+    ensures { result ≡ secrets_right (number kind) block.now }
 {
-    let from = table::AT_SECRET + ticket::secret_length(kind);
+    let from = table::AT_SECRET + kind.secret_length();
     let rest = block::all_within(&block[from..table::AT_LENGTH], 0, 0);
-    let iou = block::all_within(&block[table::AT_IOU..table::AT_SINCE], 0, 0);
-    rest & ((kind == ticket::Waiting::KIND) | iou)
+    match kind {
+        Kind::Waiting => rest,
+        _ => rest & block::all_within(&block[table::AT_IOU..table::AT_SINCE], 0, 0),
+    }
 }
 
 // A session's text is a name; other texts have bytes 32 to 126.
-fn letters_right(kind: u8, text: &[u8]) -> bool
-    ensures { result ≡ letters_right kind text.now }
+fn letters_right(kind: Kind, text: &[u8]) -> bool
+    ensures { result ≡ letters_right (number kind) text.now }
 {
-    if kind == ticket::Session::KIND {
-        return utf8::is_name(text);
+    match kind {
+        Kind::Session => utf8::is_name(text),
+        _ => block::all_within(text, 32, 126),
     }
-    block::all_within(text, 32, 126)
 }
 
 // The text's bytes are as its kind has them, those behind it zero.
-fn text_right(block: &[u8; 512], kind: u8, n: usize) -> bool
+fn text_right(block: &[u8; 512], kind: Kind, n: usize) -> bool
     requires { n ≤ 200 }
-    ensures { result ≡ text_right kind n block.now }
+    ensures { result ≡ text_right (number kind) n block.now }
 {
     let to = table::AT_TEXT + n;
     letters_right(kind, &block[table::AT_TEXT..to])
@@ -102,16 +104,18 @@ pub fn record_right(block: &[u8; 512], f: Fields, clock: u64, next: u32) -> bool
     requires { (f ≡ fields_of (decode_rec block.now)) × (clock ≤ last_time) }
     ensures { result ≡ record_right clock next block.now }
 {
+    let Ok(kind) = Kind::try_from(f.kind) else {
+        return false;
+    };
     let n = block::read::<u16>(block, table::AT_LENGTH);
-    let good = limits_right(f, n);
-    if good {
-        return secrets_right(block, f.kind)
-            & text_right(block, f.kind, n as usize)
-            & gaps_zero(block)
-            & since_right(f, clock)
-            & life_right(f, clock, next);
+    if !limits_right(kind, f, n) {
+        return false;
     }
-    false
+    secrets_right(block, kind)
+        & text_right(block, kind, usize::from(n))
+        & gaps_zero(block)
+        & since_right(kind, f, clock)
+        & life_right(kind, f, clock, next)
 }
 
 // ---- the header

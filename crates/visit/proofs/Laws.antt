@@ -6,7 +6,7 @@ use Prim.Native.Nat.{ℕ, zero, suc, ◌+◌, ◌-◌, ◌/◌, ◌≤◌, ◌<�
 use native.Mathlib.Nat.{zero-add}
 use native.Mathlib.Numerals.{sub-one}
 use native.Mathlib.Omega.{arith}
-use borrow.Author.Tests.{eq-eqb, ne_eqb, lt-ltb, le-ltb, ltb-true, ltb-false}
+use borrow.Author.Tests.{eq-eqb, ne_eqb, eqb-true, lt-ltb, le-ltb, ltb-true, ltb-false}
 use lib.Dec.{eqb, leb, ltb}
 use lib.ListN.{length, drop, get_or, drop_of_length-le}
 use Rattle.protocol.specs.Bytes.{if}
@@ -17,6 +17,7 @@ use Rattle.protocol.specs.Written.{Wrote}
 use Rattle.protocol.specs.Held.{In}
 use Rattle.protocol.specs.Calls.{unless}
 use Rattle.protocol.specs.Visits.{is_visit, visits_in, visits_of, visit_text, visit_unless, visit_refusal, visit_said, VisitRead, visit_read, visit_given, visit_refused, visit_of}
+use Rattle.protocol.proofs.Laws.{both}
 use Rattle.protocol.proofs.Places.{slots_count}
 use Rattle.protocol.proofs.Held.{slot_in}
 use Rattle.std.specs.Prelude.{Option, Some, None}
@@ -25,7 +26,7 @@ use Rattle.table.proofs.Laws.{at_slot, slots_from}
 use Rattle.table_find.proofs.Laws.{found_some, found_zero, found_is, found_low, found_none}
 use Rattle.visit.specs.Telling.{visit_from, visit_slot, told}
 
-pub is_visit_lem : (r : Rec) (s : ℕ) {k n : ℕ} → k ≡ r.kind → n ≡ r.session → eqb k 7 && eqb n s ≡ is_visit s r
+pub is_visit_lem : (r : Rec) (s : ℕ) {k : Bool} {n : ℕ} → k ≡ eqb r.kind 7 → n ≡ r.session → k && eqb n s ≡ is_visit s r
 is_visit_lem r s e f = rw (e, f)
 
 -- A search at slot k with so many visits left to pass: what is left of it says what the whole says
@@ -102,6 +103,18 @@ visit_chosen s (r ∷ rs) k n h = step (is_visit s r) n (visit_chosen s rs (k + 
     step true zero later h = chosen_here r rs (visits_in s rs) k
     step true (suc n) later h = rw (sub-one, ne_eqb (suc n) 0 (λ e. omega arith)) (chosen_past r rs (visits_in s rs) k n (visit_from (k + 1) s n rs) (later n (omega arith)))
 
+-- each of them is a visit
+visits_are : (s : ℕ) (rs : List Rec) (n : ℕ) → n < length (visits_in s rs) → 7 ≡ (get_or (visits_in s rs) n free_rec).kind
+unfolding visits_in
+visits_are s [] n h = absurd (omega arith)
+visits_are s (r ∷ rs) n h = step (is_visit s r) refl n (visits_are s rs) h
+  where
+    step : (z : Bool) → is_visit s r ≡ z → (n : ℕ) → ((m : ℕ) → m < length (visits_in s rs) → 7 ≡ (get_or (visits_in s rs) m free_rec).kind)
+        → n < length (if z (r ∷ visits_in s rs) (visits_in s rs)) → 7 ≡ (get_or (if z (r ∷ visits_in s rs) (visits_in s rs)) n free_rec).kind
+    step false e n later h = later n h
+    step true e zero later h = sym (eqb-true r.kind 7 (both (eqb r.kind 7) (eqb r.session s) e).0)
+    step true e (suc n) later h = later n (omega arith)
+
 -- and else nothing
 visit_none : (s : ℕ) (rs : List Rec) (k n : ℕ) → length (visits_in s rs) ≤ n → visit_from k s n rs ≡ 0
 unfolding visit_from visits_in
@@ -140,6 +153,9 @@ module _ (b : List ℕ) (s n : ℕ) {f : Option ℕ} (e : f ≡ found_at (visit_
 
     visit_is : rec_at k recs ≡ get_or visits n free_rec
     visit_is = at_slot recs k chosen.low ∙ chosen.is
+
+    pub visit_kind : 7 ≡ (rec_at k recs).kind
+    visit_kind = rw visit_is (visits_are s recs n below)
 
     pub told_given : (random o o' : List ℕ) (clock m : ℕ) → Wrote o 0 o' m (visit_text (rec_at k (decode_table b).slots) clock random)
         → visit_read (record { refusal = 0; length = m }) b o' ≡ told (visits_in s (decode_table b).slots) n clock random b o

@@ -3,8 +3,8 @@ use borrow.Author.Rules.{rules}
 use Rattle.ruling.proofs.Laws.{foreign, stale, taken, other}
 use Rattle.ruling.proofs.ruling_of.Goals as goal
 
-pub returns-then-kind_of-refuses_proxies : goal.returns-then-kind_of-refuses_proxies
-returns-then-kind_of-refuses_proxies c = search (rules, foreign)
+pub returns-then-has_kind-refuses_proxies : goal.returns-then-has_kind-refuses_proxies
+returns-then-has_kind-refuses_proxies c = search (rules, foreign)
 
 pub returns-then-renew-mark_of : goal.returns-then-renew-mark_of
 returns-then-renew-mark_of c = search (rules, stale)

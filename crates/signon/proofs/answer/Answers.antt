@@ -11,13 +11,17 @@ returns-in-Err c =
 pub tick-requires : goal.tick-requires
 tick-requires c = (search (rules, answer_lawful), search (rules, answer_time))
 
+pub drawn-requires : goal.drawn-requires
+drawn-requires c =
+    (answer_lent c.args.table.now c.args.register.now c.args.target.now c.args.body.now c.args.time c.args.random.now c.args.out.now c.args.cookie_out.now (search rules) (search rules)).drawn
+
 pub request-requires : goal.request-requires
 request-requires c = (
-  answer_lent c.args.table.now c.args.register.now c.args.target.now c.args.body.now c.args.time c.args.random.now c.args.out.now c.args.cookie_out.now (search rules) (search rules),
+  rw c.drawn.ensures (answer_lent c.args.table.now c.args.register.now c.args.target.now c.args.body.now c.args.time c.args.random.now c.args.out.now c.args.cookie_out.now (search rules) (search rules)),
   search (rules, answer_cookie),
 )
 
 pub returns : goal.returns
 returns c =
     answer_done c.args.table.now c.args.register.now c.args.target.now c.args.body.now c.args.time c.args.random.now c.args.out.now c.args.cookie_out.now (search rules)
-    c.args.method c.args.cookie.now c.args.verdict (search rules) c.request.ensures
+    c.args.method c.args.cookie.now c.args.verdict (search rules) (rw c.drawn.ensures at c.request.ensures)

@@ -8,8 +8,11 @@ use Rattle.signon.proofs.visit.Goals as goal
 pub returns-in-Err : goal.returns-in-Err
 returns-in-Err c = search (rules, visit_refused_lem, refused_some)
 
+pub drawn-requires : goal.drawn-requires
+drawn-requires c = search (rules, visit_drawn)
+
 pub tell-requires : goal.tell-requires
-tell-requires c = (search (rules, visit_fine), search (rules, visit_time), search (rules, visit_drawn), search (rules, visit_room))
+tell-requires c = (search (rules, visit_fine), search (rules, visit_time), search (rules, visit_room))
 
 pub returns : goal.returns
-returns c = search (rules, visit_told)
+returns c = search (rules, visit_told, c.drawn.ensures)

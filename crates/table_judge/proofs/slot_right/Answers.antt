@@ -4,13 +4,13 @@ use Rattle.table_judge.proofs.Slots.{slot_in}
 use Rattle.table_judge.proofs.Blocks.{free_slot}
 use Rattle.table_judge.proofs.slot_right.Goals as goal
 
-pub kind_of-requires : goal.kind_of-requires
-kind_of-requires c = search slot_in
+pub has_kind-requires : goal.has_kind-requires
+has_kind-requires c = search slot_in
 
 pub block_at-requires : goal.block_at-requires
 block_at-requires c = search slot_in
 
-pub returns-then-kind_of-eq-FREE : goal.returns-then-kind_of-eq-FREE
-returns-then-kind_of-eq-FREE c =
+pub returns-then-has_kind : goal.returns-then-has_kind
+returns-then-has_kind c =
     let bytes : Bytes c.args.table.now = record { each = λ i. (c.type_inv.table i).fits } in
     search (free_slot, slot_in, bytes)

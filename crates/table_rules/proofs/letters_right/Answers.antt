@@ -3,8 +3,8 @@ use borrow.Author.Rules.{rules}
 use Rattle.table_rules.proofs.Laws.{letters_name, letters_plain}
 use Rattle.table_rules.proofs.letters_right.Goals as goal
 
-pub returns-then-kind-eq-KIND : goal.returns-then-kind-eq-KIND
-returns-then-kind-eq-KIND c = search (rules, letters_name)
+pub returns-in-Session : goal.returns-in-Session
+returns-in-Session c = search (rules, letters_name)
 
-pub returns : goal.returns
-returns c = search (rules, letters_plain)
+pub returns-in_default : goal.returns-in_default
+returns-in_default c = search (rules, letters_plain)
