@@ -132,6 +132,9 @@ module _ (t g u b : List ℕ) (n : ℕ) (d o c : List ℕ) (e : 0 ≡ answer_ref
   pub answer_cookie : 64 ≤ length c
   answer_cookie = told.cookie
 
+  pub answer_drawn : length d ≡ 48
+  answer_drawn = told.random
+
   pub answer_lent : {b' : List ℕ} → Holds b' (tick n (decode_table t)) → Lent b' g d o
   answer_lent k = record { lawful = clock_lawful t n answer_lawful answer_time k; panels = told.register; drawn = told.random; room = told.out }
 
