@@ -2,20 +2,20 @@
 // of an answer and of a visit, and why a frame ends a program.
 #![tactic(auto)]
 
+mod asked;
 mod bad;
 mod fields;
 mod kept;
 mod question;
-mod request;
 
 ghost use Rattle.std.specs.Prelude.{◌≡◌, length, take, IfOk, OnErr};
 ghost use Rattle.lent.specs.Counts.{IsPrefixLen};
 
+pub use asked::Request;
 pub use bad::Bad;
 pub use fields::Fields;
 pub use kept::Kept;
 pub use question::Question;
-pub use request::Request;
 use std::io;
 use std::io::Read;
 

@@ -18,19 +18,19 @@
 #![tactic(auto)]
 
 mod answer;
-mod form;
+mod form_frame;
 mod frame;
 mod line;
-mod table;
+mod table_frames;
 mod visit_frame;
 
 use answer::{answer, finish};
-use form::read_form;
+use form_frame::read_form;
 use frame::{Stop, read_letter};
 use lent::{Bad, Kept};
 use std::io;
 use std::io::{Read, Write};
-use table::{check, format, housekeep, poke, take_register};
+use table_frames::{check, format, housekeep, poke, take_register};
 use visit_frame::visit;
 
 fn main(rt: HostRuntime) -> io::Result<()> {
