@@ -128,6 +128,7 @@ pub fn put(s: &mut [u8], at: usize, n: usize, v: u64)
     }
 }
 
+// Not by `write`: here the clause says the byte itself, `v ∷ []`, where that one's would say `bytes_of 1 v`.
 pub fn put_u8(s: &mut [u8], at: usize, v: u8)
     requires { at + 1 ≤ length s.old }
     ensures { s.new ≡ spliced s.old at (v ∷ []) }
@@ -200,6 +201,7 @@ fn check_to(s: &[u8], used: usize) -> u32
 }
 
 // Is the check of the block at a slot of the lent table that of its first bytes, so many, with zeros behind them?
+// Document 01 names this form, here and below: 508 bytes of the lent table, from 512 times the slot on, are passed to the check.
 pub fn block_ok_to(table: &[u8], slot: usize, used: usize) -> bool
     requires { (512 * slot + 512 ≤ length table.now) × (used ≤ 508) }
     ensures { result ≡ check_right_to used (part (512 * slot) 512 table.now) }
@@ -219,6 +221,7 @@ pub fn block_ok(table: &[u8], slot: usize) -> bool
 }
 
 // The check of a block's first 508 bytes, written behind them.
+// The block is a slice, and its length a clause, for the reason that stands in `table` above what a block is filled with.
 pub fn seal(block: &mut [u8])
     requires { length block.old ≡ 512 }
     ensures { block.new ≡ sealed (take 508 block.old) }

@@ -59,6 +59,7 @@ fn month_length(year: u64, month: u64) -> u64
 }
 
 // The date of a day of a year.
+// A `find` or a fold over the months would have to carry the days left beside the month, and be no plainer.
 fn month_of(year: u64, day: u64) -> Date
     requires { day < 366 }
     ensures { result ≡ month_of year day }

@@ -48,6 +48,7 @@ fn put_block(old: &[u8], new: &[u8], k: usize, out: &mut [u8], at: usize) -> usi
     at
 }
 
+// By number and not by a zip of the blocks: the number is told, and the old table may have fewer.
 fn put_blocks(old: &[u8], new: &[u8], out: &mut [u8], at: usize) -> usize
     requires { at + 516 * (length new.now / 512) ≤ length out.old }
     ensures { Wrote out.old at out.new result (blocks_text (changes_of old.now new.now)) }

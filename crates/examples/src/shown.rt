@@ -10,6 +10,7 @@ fn show_bytes(output: &mut impl Write, bytes: &[u8]) -> io::Result<()> {
 }
 
 // The name of an answer's case.
+// No Display: it would have to stand in `protocol`, away from the script's other words.
 fn name(answer: Answer) -> &'static str {
     match answer {
         Answer::Nothing => "nothing",

@@ -6,6 +6,7 @@ pub fn word<'a>(line: &'a [u8], k: usize) -> &'a [u8] {
     line.split(|b| *b == b' ').nth(k).unwrap_or(&[])
 }
 
+// A byte that is no digit counts as 0, and of more than 18 digits the last 18 count: `parse` does neither, and what the program does with such words may not change.
 fn digit(b: u8) -> u64
     ensures { result < 10 }
 {

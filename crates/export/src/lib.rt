@@ -17,6 +17,7 @@ fn method_of(post: bool) -> Method
 }
 
 // The eight numbers of an outcome.
+// Lengths here and below are widened by `as`: from `usize` to `u64` there is no From.
 fn put_outcome(o: Outcome, list: &mut [u64])
     requires { length list.old ≡ 8 }
     ensures { list.new ≡ outcome_numbers o }

@@ -15,6 +15,7 @@ use request::LoginQuery;
 use ticket::Kind;
 
 // Which way the query goes, by its service as the register has it.
+// Here and below an empty service is none: so in the meaning's `way_of` and `signed_on`, which may not change.
 fn way_of(table: &[u8], query: LoginQuery<'_>, service: &[u8], cookie: &[u8]) -> Way
     requires { Fine table.now }
     ensures { result ≡ way_of (ltb 0 query.entry.service.length && eqb (length service.now) 0)

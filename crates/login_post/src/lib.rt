@@ -32,6 +32,7 @@ fn spend(table: &mut [u8], lt: Value<'_>) -> bool
 }
 
 // The service may be unknown; the login ticket was live, or not; username or password may be absent.
+// Four flags, since the meaning's `admission_of`, which may not change, asks these four.
 fn admission_of(unknown: bool, live: bool, absent: bool, verdict: bool) -> Admission
     ensures { result ≡ admission_of unknown (slot_if live) absent verdict }
 {

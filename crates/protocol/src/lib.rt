@@ -61,6 +61,7 @@ pub enum Validator {
 }
 
 // The path of a request, by the names of document 01.
+// Here and below a case of its own stands for none: the meaning (`path_named`, `way_of`, `standing_of`, `refused_outcome`) shares these enums, and may not change.
 #[derive(Clone, Copy)]
 pub enum Path {
     Login,
@@ -110,6 +111,7 @@ pub enum Standing {
 }
 
 // What is to be said of a live ticket. Of an accepted one: its session, where its proxies start, 0 for none, and its mark.
+// That 0, and a mark that is a number, are those of `ruling_of`, which may not change.
 #[derive(Clone, Copy)]
 pub enum Ruling {
     NoTicket,

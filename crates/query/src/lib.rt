@@ -12,6 +12,7 @@ ghost use Rattle.query.specs.Place.{Inside, noted_by, Walked};
 use protocol::{Path, Validator};
 
 // A piece: its name runs from `start` to `mid`, its raw value from `value` to `end`. An empty one stands for none.
+// Document 01 names this form: a reader that holds the query slice and a position, and one thin step. So a piece is places, and none an empty one.
 #[derive(Clone, Copy)]
 pub struct Piece {
     pub start: usize,
@@ -28,6 +29,7 @@ pub struct Reader<'a> {
 }
 
 // What a walk notes of a name: how many pieces have it, and the raw value of the first, a part of the query itself.
+// No Option: the meaning's `occurrences` counts from 0, its `raw_value` is empty for an absent name, and neither may change.
 #[derive(Clone, Copy)]
 pub struct Place<'a> {
     pub count: usize,
@@ -78,6 +80,7 @@ pub fn path_of(target: &[u8]) -> Path
 }
 
 // The query starts after it: a part of the target itself, empty where there is none.
+// An empty one for none is the meaning's `query_part`, which may not change.
 pub fn query_of<'a>(target: &'a [u8]) -> &'a [u8]
     ensures { result.now ≡ query_part target.now }
 {
@@ -168,6 +171,7 @@ fn noted<'a>(place: Place<'a>, name: &[u8], wanted: &[u8], raw: &'a [u8]) -> Pla
 }
 
 // The walk: every piece once, and four names noted at each.
+// Its loop goes by the reader's one thin step, the form that document 01 names.
 pub fn walk<'a>(q: &'a [u8], a: &[u8], b: &[u8], c: &[u8], d: &[u8]) -> Places<'a>
     ensures { Walked q.now a.now b.now c.now d.now result }
 {

@@ -8,6 +8,7 @@ ghost use Rattle.protocol.specs.Answers.{reply_text, callback_text, extended, Er
 ghost use Rattle.protocol.specs.Written.{Room, Wrote};
 ghost use Rattle.render.specs.Parts.{title_lines, status_line, status_head, link_line, form_fields, input_open, hidden_input, service_input, form_button, form_parts, grant_parts};
 
+// Each writer takes a place and answers the next one, and is no cursor: `Room` and `Wrote` of protocol, which may not change, speak of the two.
 fn put_title(out: &mut [u8], status: u32) -> usize
     requires { Room out.old 0 (title_lines status) }
     ensures { Wrote out.old 0 out.new result (title_lines status) }
@@ -63,6 +64,7 @@ fn put_link(out: &mut [u8], at: usize, link: &[u8]) -> usize
 }
 
 // An empty link is none.
+// So are an empty service and an empty ticket below: the meaning's `reply_text`, which may not change, has them so.
 pub fn put_signed_out(out: &mut [u8], link: &[u8]) -> usize
     requires in_bounds { 8192 ≤ length out.old }
     requires link_len_bound { length link.now ≤ 200 }

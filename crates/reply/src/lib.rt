@@ -93,6 +93,7 @@ pub fn with_cleared(r: Outcome, ended: bool) -> Outcome
     }
 }
 
+// Here and below the output is a slice, and its room a clause: C lends it, it may be longer than 8,192 bytes, and `Said` speaks of all of it.
 pub fn say_page(out: &mut [u8], status: u32) -> Outcome
     requires { 8192 ≤ length out.old }
     ensures { Said (ErrorPage status) result out.old out.new }

@@ -53,6 +53,7 @@ pub struct ProxyQuery<'a> {
 }
 
 // Which values may stand for a name: plain text up to a limit, any bytes, or a name in UTF-8.
+// Named, and no closure: `right_by`, of which the clauses below speak, tells the three apart by name.
 #[derive(Clone, Copy)]
 enum Rule {
     Plain(usize),

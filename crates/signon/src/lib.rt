@@ -68,6 +68,7 @@ pub fn read_form(body: &[u8], username: &mut [u8], password: &mut [u8]) -> Form
 }
 
 // A request, its cookie and the host's verdict on a password: the answer into `out`, a new session's cookie into `cookie_out`.
+// Each parameter by itself: the nine calls, which `export` and `export_c` hand out to C, may not change.
 pub fn answer(
     table: &mut [u8],
     register: &[u8],

@@ -11,6 +11,7 @@ ghost use Rattle.success.specs.Walk.{Walk, Told};
 use protocol::{Answer, Outcome};
 
 // The lines of the proxies from the grant in `slot` on, `depth` of them.
+// Document 01 names this form: a recursive walk over parent slots, with the depth as the falling number.
 pub fn put_chain(table: &[u8], slot: usize, depth: u8, out: &mut [u8], at: usize) -> usize
     requires { (Walk table.now slot depth) × (Room out.old at (proxy_lines (chain_from depth slot (decode_table table.now).slots))) }
     ensures { Wrote out.old at out.new result (proxy_lines (chain_from depth slot (decode_table table.now).slots)) }
@@ -39,6 +40,7 @@ fn put_proxies(table: &[u8], parent: usize, out: &mut [u8], at: usize) -> usize
 }
 
 // Success by a ticket's mark: the user of a session, since when, an IOU if it is not empty, and the proxies from a parent on.
+// An empty IOU and parent 0 are none: so in the meaning's `success_of`, which may not change.
 pub fn say_success(
     table: &[u8],
     session: usize,

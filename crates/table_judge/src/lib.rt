@@ -12,6 +12,7 @@ use table::Fields;
 use ticket::Kind;
 
 // A record and the session that it names.
+// Here and below kinds are compared as numbers, also by `<`: so do the meaning's `session_right` and `parent_right`, which may not change.
 fn session_right(f: Fields, s: Fields) -> bool
     ensures { result ≡ session_test f s }
 {

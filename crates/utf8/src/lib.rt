@@ -8,6 +8,7 @@ ghost use Rattle.utf8.specs.Machine.{begun, tailed, followed, is_start};
 
 // What may come next: a first byte, or the end; a byte from the first number to the second, and as many plain tails
 // (80 to BF) after it as the third says; nothing, since what came is in no name.
+// `Bad` and no Option: the state is handed on from byte to byte, and an Option of it would be opened and closed at each.
 #[derive(Clone, Copy)]
 pub enum Next {
     Start,

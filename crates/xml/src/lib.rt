@@ -198,6 +198,7 @@ fn put_attributes(out: &mut [u8], at: usize, since: u64, mark: u8) -> usize
 }
 
 // The IOU, if it is not empty.
+// An empty one is none: so in the meaning's `success_text`, which may not change.
 fn put_iou(out: &mut [u8], at: usize, iou: &[u8]) -> usize
     requires { Room out.old at (iou_line iou.now) }
     ensures { Wrote out.old at out.new result (iou_line iou.now) }
