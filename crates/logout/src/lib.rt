@@ -9,7 +9,7 @@ ghost use Rattle.protocol.specs.Held.{Fine, Holds, Done};
 ghost use Rattle.request.specs.Value.{text_of, Short};
 ghost use Rattle.logout.specs.Leaving.{Given, leaving};
 
-use protocol::{Brings, Outcome};
+use protocol::Outcome;
 use request::Value;
 use ticket::Kind;
 
@@ -25,24 +25,31 @@ fn end_named(table: &mut [u8], cookie: &[u8])
 }
 
 // The page links back to the url where that is a registered service.
-fn leave_for(table: &mut [u8], url: Value<'_>, brings: Brings<'_>, out: &mut [u8]) -> Outcome
+fn leave_for(
+    table: &mut [u8],
+    register: &[u8],
+    url: Value<'_>,
+    cookie: &[u8],
+    out: &mut [u8],
+) -> Outcome
     requires { (Given table.old out.old) × (Short 200 url) }
     ensures { Done (logout (read.Given (text_of url.entry))
-        (leaving brings.entry.register.now brings.entry.cookie.now) (decode_table table.old)) result table.new
+        (leaving register.now cookie.now) (decode_table table.old)) result table.new
         out.old out.new }
 {
-    end_named(table, brings.cookie);
-    let link = known::service_of(brings.register, url);
+    end_named(table, cookie);
+    let link = known::service_of(register, url);
     reply::with_cleared(reply::say_signed_out(out, link), true)
 }
 
-pub fn logout(table: &mut [u8], q: &[u8], brings: Brings<'_>, out: &mut [u8]) -> Outcome
+// Of what comes with a request it reads the register and the cookie, so that it asks for no random input and no verdict.
+pub fn logout(table: &mut [u8], register: &[u8], q: &[u8], cookie: &[u8], out: &mut [u8]) -> Outcome
     requires { Given table.old out.old }
-    ensures { Done (logout (read.leaving q.now) (leaving brings.entry.register.now brings.entry.cookie.now)
+    ensures { Done (logout (read.leaving q.now) (leaving register.now cookie.now)
         (decode_table table.old)) result table.new out.old out.new }
 {
     match request::logout_query(q) {
-        Some(url) => leave_for(table, url, brings, out),
+        Some(url) => leave_for(table, register, url, cookie, out),
         None => reply::say_page(out, 400),
     }
 }

@@ -24,7 +24,7 @@ fn by_get(table: &mut [u8], path: Path, q: &[u8], brings: Brings<'_>, out: &mut 
 {
     match path {
         Path::Login => login_get::get(table, q, brings, out),
-        Path::Logout => logout::logout(table, q, brings, out),
+        Path::Logout => logout::logout(table, brings.register, q, brings.cookie, out),
         Path::Validate(validator) => validate::validate(table, validator, q, brings, out),
         Path::Proxy => proxy::proxy(table, q, brings, out),
         Path::Unknown => reply::say_page(out, NOT_FOUND),
