@@ -43,31 +43,29 @@ fn entry_right(service: &[u8], callback: &[u8]) -> bool
 // ---- one block
 
 // A text of a block where it stands, by the field of its length. A length beyond the block reads to the block's end.
-fn text_of<'a>(b: &'a [u8], field: usize, at: usize) -> &'a [u8]
-    requires { (length b.now ≡ 512) × (field ≤ 2) × (at ≤ 204) }
+fn text_of<'a>(b: &'a [u8; 512], field: usize, at: usize) -> &'a [u8]
+    requires { (field ≤ 2) × (at ≤ 204) }
     ensures { result.now ≡ part at (num field 2 b.now) b.now }
 {
     let to = at + usize::from(block::read::<u16>(b, field));
     &b[at..to.min(512)]
 }
 
-fn service_of<'a>(b: &'a [u8]) -> &'a [u8]
-    requires { length b.now ≡ 512 }
+fn service_of<'a>(b: &'a [u8; 512]) -> &'a [u8]
     ensures { result.now ≡ (decode_entry b.now).service }
 {
     text_of(b, 0, 4)
 }
 
-fn callback_in<'a>(b: &'a [u8]) -> &'a [u8]
-    requires { length b.now ≡ 512 }
+fn callback_in<'a>(b: &'a [u8; 512]) -> &'a [u8]
     ensures { result.now ≡ (decode_entry b.now).callback }
 {
     text_of(b, 2, 204)
 }
 
 // Behind texts of n and m bytes.
-fn rest_right(b: &[u8], n: usize, m: usize) -> bool
-    requires { (length b.now ≡ 512) × (n ≤ 200) × (m ≤ 200) }
+fn rest_right(b: &[u8; 512], n: usize, m: usize) -> bool
+    requires { (n ≤ 200) × (m ≤ 200) }
     ensures { result ≡ rest_right n m b.now }
 {
     let service = 4 + n;
@@ -77,8 +75,7 @@ fn rest_right(b: &[u8], n: usize, m: usize) -> bool
         & block::all_within(&b[callback..508], 0, 0)
 }
 
-fn block_right(b: &[u8]) -> bool
-    requires { length b.now ≡ 512 }
+fn block_right(b: &[u8; 512]) -> bool
     ensures { result ≡ panel_right b.now }
 {
     let service = service_of(b);
@@ -89,13 +86,12 @@ fn block_right(b: &[u8]) -> bool
 // ---- services
 
 // Block k, where it stands.
-fn block_at<'a>(b: &'a [u8], k: usize) -> &'a [u8]
+fn block_at<'a>(b: &'a [u8], k: usize) -> &'a [u8; 512]
     requires { 512 * k + 512 ≤ length b.now }
-    ensures whole { length result.now ≡ 512 }
-    ensures stands { result.now ≡ part (512 * k) 512 b.now }
+    ensures { result.now ≡ part (512 * k) 512 b.now }
 {
-    let from = 512 * k;
-    &b[from..from + 512]
+    let (blocks, _) = b.as_chunks::<512>();
+    &blocks[k]
 }
 
 // The service of block k, where it stands.
