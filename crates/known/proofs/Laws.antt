@@ -7,7 +7,7 @@ use native.Mathlib.Omega.{arith}
 use borrow.Author.Tests.{ne_eqb, lt-ltb, le-ltb, ltb-true, ltb-false}
 use lib.Dec.{eqb, ltb}
 use lib.ListN.{length}
-use Rattle.std.specs.Prelude.{Option, Some, None, is_none, unwrap_or}
+use Rattle.std.specs.Prelude.{Option, Some, None, MatchOption, is_none, unwrap_or}
 use Rattle.protocol.specs.Bytes.{if, is_empty, same}
 use Rattle.protocol.specs.Register.{Entry, decode_register, registered, callback_of}
 use Rattle.protocol.specs.Panels.{service_in}
@@ -61,22 +61,32 @@ module _ (s b : List ℕ) where
       pub place_inside : 512 * p + 512 ≤ length b
       place_inside = omega (arith, inside)
 
-      pub service_there : (v : List ℕ) → v ≡ service_in b p → v ≡ link_to s (decode_register b)
+      service_there : (v : List ℕ) → v ≡ service_in b p → v ≡ link_to s (decode_register b)
       unfolding link_to
       service_there v q = let t = place_told o p e k in q ∙ sym (service_found s b p t.1 inside) ∙ rw t.0
 
-      pub callback_there : (v : List ℕ) → v ≡ callback_in b p → v ≡ callback_of s (decode_register b)
+      callback_there : (v : List ℕ) → v ≡ callback_in b p → v ≡ callback_of s (decode_register b)
       callback_there v q = q ∙ callback_found s b p (place_told o p e k).1 inside
 
     module _ (k : o ≡ None) where
-      pub service_nowhere : [] ≡ link_to s (decode_register b)
+      service_nowhere : [] ≡ link_to s (decode_register b)
       unfolding link_to
       service_nowhere = rw (nowhere_told o e k)
 
-      pub callback_none : [] ≡ callback_of s (decode_register b)
+      callback_none : [] ≡ callback_of s (decode_register b)
       callback_none =
           let p : ℕ = place_of s (decode_register b) in
           callback_nowhere s b p refl (ltb-false p (length b / 512) (stands s b p refl ∙ nowhere_told o e k))
+
+  -- what `map_or` gives
+  module _ (v : List ℕ) {P : Type 0} {Q : ℕ → Type 0} (nothing : P → v ≡ []) where
+    pub service_told : (o : Option ℕ) → o ≡ standing s (decode_register b) → MatchOption o P Q → ((k : ℕ) → Q k → v ≡ service_in b k) → v ≡ link_to s (decode_register b)
+    service_told None e m there = nothing m ∙ service_nowhere None e refl
+    service_told (Some k) e m there = service_there (Some k) e k refl v (there k m)
+
+    pub callback_told : (o : Option ℕ) → o ≡ standing s (decode_register b) → MatchOption o P Q → ((k : ℕ) → Q k → v ≡ callback_in b k) → v ≡ callback_of s (decode_register b)
+    callback_told None e m there = nothing m ∙ callback_none None e refl
+    callback_told (Some k) e m there = callback_there (Some k) e k refl v (there k m)
 
 -- For callers
 

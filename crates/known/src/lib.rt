@@ -27,10 +27,7 @@ fn standing(register: &[u8], service: Value<'_>) -> Option<usize>
 pub fn service_of<'a, 'b>(register: &'a [u8], service: Value<'b>) -> &'a [u8]
     ensures { result.now ≡ link_to (text_of service.entry) (decode_register register.now) }
 {
-    match standing(register, service) {
-        Some(k) => register::service_at(register, k),
-        None => &register[..0],
-    }
+    standing(register, service).map_or(b"", |k| register::service_at(register, k))
 }
 
 // Whether a service that is given, and found so, is unknown.
@@ -44,8 +41,5 @@ pub fn is_unknown(service: Value<'_>, found: &[u8]) -> bool
 pub fn callback_of<'a, 'b>(register: &'a [u8], service: Value<'b>) -> &'a [u8]
     ensures { result.now ≡ callback_of (text_of service.entry) (decode_register register.now) }
 {
-    match standing(register, service) {
-        Some(k) => register::callback_at(register, k),
-        None => &register[..0],
-    }
+    standing(register, service).map_or(b"", |k| register::callback_at(register, k))
 }
