@@ -15,12 +15,7 @@ fn standing(register: &[u8], service: Value<'_>) -> Option<usize>
     ensures { result ≡ standing (text_of service.entry) (decode_register register.now) }
 {
     let m = register.len() / 512;
-    for k in 0..m {
-        if service.is_text(register::service_at(register, k)) {
-            return Some(k);
-        }
-    }
-    None
+    (0..m).find(|k| service.is_text(register::service_at(register, *k)))
 }
 
 // The service where it is registered, else nothing.

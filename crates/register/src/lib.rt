@@ -115,12 +115,7 @@ fn place_of(b: &[u8], service: &[u8]) -> Option<usize>
     ensures { result ≡ if_below (length b.now / 512) (place_of service.now (decode_register b.now)) }
 {
     let m = b.len() / 512;
-    for k in 0..m {
-        if text::same(service, service_at(b, k)) {
-            return Some(k);
-        }
-    }
-    None
+    (0..m).find(|k| text::same(service, service_at(b, *k)))
 }
 
 fn registered(b: &[u8], service: &[u8]) -> bool
@@ -143,12 +138,7 @@ fn first_fault(b: &[u8]) -> Option<usize>
     ensures { result ≡ if_below (length b.now / 512) (fault_from 0 (length b.now / 512) b.now) }
 {
     let m = b.len() / 512;
-    for k in 0..m {
-        if at_fault(b, k) {
-            return Some(k);
-        }
-    }
-    None
+    (0..m).find(|k| at_fault(b, *k))
 }
 
 fn shape_right(n: usize) -> bool
