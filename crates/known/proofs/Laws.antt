@@ -4,36 +4,30 @@ use mathlib.Core.Bool.{Bool, true, false, ◌&&◌, not}
 use mathlib.Core.List.{List, [], ◌∷◌}
 use Prim.Native.Nat.{ℕ, ◌+◌, ◌*◌, ◌/◌, ◌≤◌, ◌<◌}
 use native.Mathlib.Omega.{arith}
-use borrow.Author.Tests.{ne_eqb, lt-ltb, le-ltb, ltb-true, ltb-false}
+use borrow.Author.Tests.{ne_eqb, lt-ltb, ltb-true, ltb-false}
 use lib.Dec.{eqb, ltb}
 use lib.ListN.{length}
-use Rattle.std.specs.Prelude.{Option, Some, None, is_none, unwrap_or}
+use Rattle.std.specs.Prelude.{Option, Some, None, MatchOption, is_none, unwrap_or}
+use Rattle.std.specs.Option.{option_map}
+use Rattle.std.specs.List.{find, range_with_len}
 use Rattle.protocol.specs.Bytes.{if, is_empty, same}
 use Rattle.protocol.specs.Register.{Entry, decode_register, registered, callback_of}
 use Rattle.protocol.specs.Panels.{service_in}
 use Rattle.protocol.specs.Steps.{link_to, unknown_service}
 use Rattle.request.specs.Value.{text_of, Short}
 use Rattle.request.specs.declared.value.Value.{Value}
-use Rattle.register.specs.Blockwise.{place_of, callback_in}
+use Rattle.register.specs.Blockwise.{place_of, callback_in, if_below}
 use Rattle.known.specs.Standing.{standing}
-use Rattle.register.proofs.Laws.{Looking, look_hit, look_none, stands, service_found, callback_found, callback_nowhere}
+use Rattle.register.proofs.Laws.{place_found, stands, service_found, callback_found, callback_nowhere}
 
--- `standing`: the loop's place, or none
-module _ (s b : List ℕ) (p : ℕ) (e : p ≡ place_of s (decode_register b)) where
-  stands_there : p < length b / 512 → ◌≡◌ {A = Option ℕ} (Some p) (standing s (decode_register b))
-  unfolding standing
-  stands_there h = let r : registered s (decode_register b) ≡ true = sym (stands s b p e) ∙ lt-ltb p (length b / 512) h in rw (r, ← e)
+-- `standing`: the place that `find` gives, or none
+module _ (s b : List ℕ) where
+  place_standing : (x : Bool) → x ≡ ltb (place_of s (decode_register b)) (length b / 512) → if_below (length b / 512) (place_of s (decode_register b)) ≡ standing s (decode_register b)
+  unfolding standing if_below
+  place_standing x e = rw (← stands s b (place_of s (decode_register b)) refl, ← e)
 
-  stands_nowhere : length b / 512 ≤ p → ◌≡◌ {A = Option ℕ} None (standing s (decode_register b))
-  unfolding standing
-  stands_nowhere h = let r : registered s (decode_register b) ≡ false = sym (stands s b p e) ∙ le-ltb p (length b / 512) h in rw r
-
-module _ (s b : List ℕ) (m k : ℕ) (l : Looking s b m k) where
-  pub look_stands : k < m → (v : List ℕ) → v ≡ service_in b k → (r : Bool) → r ≡ same s v → r ≡ true → ◌≡◌ {A = Option ℕ} (Some k) (standing s (decode_register b))
-  look_stands h v ev r e f = stands_there s b k (look_hit s b m k l h v ev r e f) (omega (arith, l.count))
-
-  pub look_nowhere : m ≤ k → ◌≡◌ {A = Option ℕ} None (standing s (decode_register b))
-  look_nowhere h = stands_nowhere s b m (look_none s b m k l h) (omega (arith, l.count))
+  pub standing_found : {r : Option ℕ} → option_map (λ (x : ℕ). x) r ≡ find (λ (j : ℕ). same s (service_in b j)) (range_with_len 0 (length b / 512)) → r ≡ standing s (decode_register b)
+  standing_found e = place_found s b e ∙ place_standing (ltb (place_of s (decode_register b)) (length b / 512)) refl
 
 -- `service_of` and `callback_of`: what stands at the place
 module _ (s b : List ℕ) where
@@ -61,22 +55,32 @@ module _ (s b : List ℕ) where
       pub place_inside : 512 * p + 512 ≤ length b
       place_inside = omega (arith, inside)
 
-      pub service_there : (v : List ℕ) → v ≡ service_in b p → v ≡ link_to s (decode_register b)
+      service_there : (v : List ℕ) → v ≡ service_in b p → v ≡ link_to s (decode_register b)
       unfolding link_to
       service_there v q = let t = place_told o p e k in q ∙ sym (service_found s b p t.1 inside) ∙ rw t.0
 
-      pub callback_there : (v : List ℕ) → v ≡ callback_in b p → v ≡ callback_of s (decode_register b)
+      callback_there : (v : List ℕ) → v ≡ callback_in b p → v ≡ callback_of s (decode_register b)
       callback_there v q = q ∙ callback_found s b p (place_told o p e k).1 inside
 
     module _ (k : o ≡ None) where
-      pub service_nowhere : [] ≡ link_to s (decode_register b)
+      service_nowhere : [] ≡ link_to s (decode_register b)
       unfolding link_to
       service_nowhere = rw (nowhere_told o e k)
 
-      pub callback_none : [] ≡ callback_of s (decode_register b)
+      callback_none : [] ≡ callback_of s (decode_register b)
       callback_none =
           let p : ℕ = place_of s (decode_register b) in
           callback_nowhere s b p refl (ltb-false p (length b / 512) (stands s b p refl ∙ nowhere_told o e k))
+
+  -- what `map_or` gives
+  module _ (v : List ℕ) {P : Type 0} {Q : ℕ → Type 0} (nothing : P → v ≡ []) where
+    pub service_told : (o : Option ℕ) → o ≡ standing s (decode_register b) → MatchOption o P Q → ((k : ℕ) → Q k → v ≡ service_in b k) → v ≡ link_to s (decode_register b)
+    service_told None e m there = nothing m ∙ service_nowhere None e refl
+    service_told (Some k) e m there = service_there (Some k) e k refl v (there k m)
+
+    pub callback_told : (o : Option ℕ) → o ≡ standing s (decode_register b) → MatchOption o P Q → ((k : ℕ) → Q k → v ≡ callback_in b k) → v ≡ callback_of s (decode_register b)
+    callback_told None e m there = nothing m ∙ callback_none None e refl
+    callback_told (Some k) e m there = callback_there (Some k) e k refl v (there k m)
 
 -- For callers
 

@@ -15,22 +15,14 @@ fn standing(register: &[u8], service: Value<'_>) -> Option<usize>
     ensures { result ≡ standing (text_of service.entry) (decode_register register.now) }
 {
     let m = register.len() / 512;
-    for k in 0..m {
-        if service.is_text(register::service_at(register, k)) {
-            return Some(k);
-        }
-    }
-    None
+    (0..m).find(|k| service.is_text(register::service_at(register, *k)))
 }
 
 // The service where it is registered, else nothing.
 pub fn service_of<'a, 'b>(register: &'a [u8], service: Value<'b>) -> &'a [u8]
     ensures { result.now ≡ link_to (text_of service.entry) (decode_register register.now) }
 {
-    match standing(register, service) {
-        Some(k) => register::service_at(register, k),
-        None => &register[..0],
-    }
+    standing(register, service).map_or(b"", |k| register::service_at(register, k))
 }
 
 // Whether a service that is given, and found so, is unknown.
@@ -44,8 +36,5 @@ pub fn is_unknown(service: Value<'_>, found: &[u8]) -> bool
 pub fn callback_of<'a, 'b>(register: &'a [u8], service: Value<'b>) -> &'a [u8]
     ensures { result.now ≡ callback_of (text_of service.entry) (decode_register register.now) }
 {
-    match standing(register, service) {
-        Some(k) => register::callback_at(register, k),
-        None => &register[..0],
-    }
+    standing(register, service).map_or(b"", |k| register::callback_at(register, k))
 }

@@ -1,20 +1,22 @@
--- A register read block by block: what each turn of a loop leaves to do, and what its answer says. Assumes nothing.
+-- A register read block by block: the block that `find` gives, and what the answer of each function says. Assumes nothing.
 use mathlib.Core.Path.{◌≡◌, refl, sym, ap, ◌∙◌}
-use mathlib.Core.Bool.{Bool, true, false, ◌&&◌, not}
+use mathlib.Core.Bool.{Bool, true, false, ◌&&◌, not, cond}
 use mathlib.Core.List.{List, [], ◌∷◌}
 use Prim.Native.Nat.{ℕ, zero, suc, ◌+◌, ◌-◌, ◌*◌, ◌/◌, ◌≤◌, ◌<◌}
-use native.Mathlib.Nat.{sub-zero, zero-add}
+use native.Mathlib.Nat.{zero-add}
 use native.Mathlib.Omega.{arith}
 use borrow.Author.Tests.{eq-eqb, eqb-true, eqb-false, lt-ltb, le-ltb, ltb-true, ltb-false}
 use lib.Dec.{eqb, leb, ltb}
 use lib.Pointwise.{pointwise}
-use lib.ListN.{length, take, drop}
+use lib.ListN.{length, take, drop, get_or}
 use lib.Seq.{drop-drop, take_all, length-take-le}
 use Rattle.std.specs.Prelude.{Option, Some, None, is_some, is_none}
-use Rattle.std.specs.List.{starts_with}
+use Rattle.std.specs.Option.{option_map}
+use Rattle.std.specs.List.{starts_with, find, range_with_len}
+use Rattle.std.specs.Simd.{first_chunks}
 use Rattle.protocol.specs.Bytes.{if, ascii, same, within, all_within, holds, part, blocks}
 use Rattle.protocol.specs.Blocks.{check_right}
-use Rattle.protocol.specs.Register.{Entry, entry_right, decode_entry, decode_register, address_right, register_shape, register_lawful, registered, callback_of}
+use Rattle.protocol.specs.Register.{entry_right, decode_entry, decode_register, address_right, register_shape, register_lawful, registered, callback_of}
 use Rattle.protocol.specs.Panels.{entry, panel_right, service_in, at_fault, fault_from, fault, fault_of}
 use Rattle.protocol.specs.declared.Fault.{Fault}
 use Rattle.protocol.proofs.Laws.{one_test, same-eq}
@@ -65,11 +67,11 @@ module _ (b : List ℕ) (n m : ℕ) (long : length b ≡ 512) (short : n ≤ 200
       rw (ec, ez, ey, whole, p, q)
 
 -- a place, or none
-pub some_below : (n p k : ℕ) → k ≡ p → k < n → Some k ≡ if_below n p
+some_below : (n p k : ℕ) → k ≡ p → k < n → Some k ≡ if_below n p
 unfolding if_below
 some_below n p k e h = rw (← e, lt-ltb k n h)
 
-pub none_below : (n p : ℕ) → n ≤ p → None ≡ if_below n p
+none_below : (n p : ℕ) → n ≤ p → None ≡ if_below n p
 unfolding if_below
 none_below n p h = rw (le-ltb p n h)
 
@@ -104,56 +106,41 @@ module _ (n p : ℕ) where
       go true = refl
       go false = refl
 
--- `place_of`: the entries from block k on
-abbrev left : ℕ → ℕ → List ℕ → List Entry
-left m k b = said (m - k) (drop (512 * k) b)
+-- `find` over the blocks from k on
+kept : (r : Option ℕ) → option_map (λ (x : ℕ). x) r ≡ r
+kept None = refl
+kept (Some x) = refl
 
-left_step : (m k : ℕ) (b : List ℕ) → k < m → left m k b ≡ decode_entry (part (512 * k) 512 b) ∷ left m (k + 1) b
-unfolding blocks
-left_step m k b h =
-    let n : m - k ≡ suc (m - (k + 1)) = omega arith in
-    let q : 512 * k + 512 ≡ 512 * (k + 1) = omega arith in
-    ap (λ (i : ℕ). said i (drop (512 * k) b)) n
-    ∙ ap (λ (s : List ℕ). decode_entry (part (512 * k) 512 b) ∷ said (m - (k + 1)) s) (drop-drop 512 (512 * k) b ∙ ap (λ (i : ℕ). drop i b) q)
+step : (x : Bool) (k n p q : ℕ) (o : Option ℕ) → q ≡ if x k p → o ≡ if_below (k + 1 + n) p → cond x (Some k) o ≡ if_below (k + suc n) q
+step true k n p q o e h = some_below (k + suc n) q k (sym e) (omega arith)
+step false k n p q o e h = let w : k + 1 + n ≡ k + suc n = omega arith in h ∙ rw (w, e)
 
-left_none : (m k : ℕ) (b : List ℕ) → m ≤ k → left m k b ≡ []
-unfolding blocks
-left_none m k b h = let e : m - k ≡ 0 = omega arith in rw e
+-- `place_of`
+module _ (s b : List ℕ) where
+  left : ℕ → ℕ → ℕ
+  left n k = place_of s (said n (drop (512 * k) b))
 
--- the place is k blocks on from that among those that are left
-pub record Looking (s b : List ℕ) (m k : ℕ) : Type 0 where
-  pub count : m ≡ length b / 512
-  pub high : k ≤ m
-  pub place : k + place_of s (left m k b) ≡ place_of s (decode_register b)
+  left_next : (n k : ℕ) → left (suc n) k ≡ if (same s (service_in b k)) 0 (suc (left n (k + 1)))
+  unfolding left place_of service_in blocks
+  left_next n k =
+      let q : 512 * k + 512 ≡ 512 * (k + 1) = omega arith in
+      ap (λ (d : List ℕ). if (same s (service_in b k)) 0 (suc (place_of s (said n d)))) (drop-drop 512 (512 * k) b ∙ ap (λ (i : ℕ). drop i b) q)
 
-pub look_start : (s b : List ℕ) (m : ℕ) → m ≡ length b / 512 → Looking s b m 0
-unfolding decode_register
-look_start s b m e = record { count = e; high = omega arith; place = zero-add (place_of s (left m 0 b)) ∙ rw (sub-zero m, e) }
+  place_listed : (n k : ℕ) → find (λ (j : ℕ). same s (service_in b j)) (range_with_len k n) ≡ if_below (k + n) (k + left n k)
+  unfolding left place_of blocks
+  place_listed zero k = none_below (k + 0) (k + 0) (omega arith)
+  place_listed (suc n) k =
+      step (same s (service_in b k)) k n (k + 1 + left n (k + 1)) (k + left (suc n) k) (find (λ (j : ℕ). same s (service_in b j)) (range_with_len (k + 1) n))
+      (ap (λ (i : ℕ). k + i) (left_next n k) ∙ moved (same s (service_in b k))) (place_listed n (k + 1))
+    where
+      moved : (x : Bool) → k + if x 0 (suc (left n (k + 1))) ≡ if x k (k + 1 + left n (k + 1))
+      moved true = omega arith
+      moved false = omega arith
 
-module _ (s b : List ℕ) (m k : ℕ) (l : Looking s b m k) where
-  pub look_none : m ≤ k → m ≡ place_of s (decode_register b)
-  unfolding place_of
-  look_none h = let e : place_of s (left m k b) ≡ 0 = ap (place_of s) (left_none m k b h) in omega (arith, l.high, l.place)
-
-  pub look_nowhere : m ≤ k → None ≡ if_below (length b / 512) (place_of s (decode_register b))
-  look_nowhere h = none_below (length b / 512) (place_of s (decode_register b)) (omega (arith, l.count, look_none h))
-
-  pub look_inside : k < m → 512 * k + 512 ≤ length b
-  look_inside h = omega (arith, l.count)
-
-  module _ (h : k < m) (v : List ℕ) (ev : v ≡ service_in b k) (r : Bool) (e : r ≡ same s v) where
-    here : k + if r 0 (suc (place_of s (left m (k + 1) b))) ≡ place_of s (decode_register b)
-    unfolding place_of service_in
-    here = sym (sym l.place ∙ ap (λ (es : List Entry). k + place_of s es) (left_step m k b h) ∙ rw (← ev, ← e))
-
-    pub look_hit : r ≡ true → k ≡ place_of s (decode_register b)
-    look_hit f = omega (arith, rw f at here)
-
-    pub look_some : r ≡ true → Some k ≡ if_below (length b / 512) (place_of s (decode_register b))
-    look_some f = some_below (length b / 512) (place_of s (decode_register b)) k (look_hit f) (omega (arith, l.count))
-
-    pub look-next : r ≡ false → Looking s b m (k + 1)
-    look-next f = record { count = l.count; high = omega arith; place = omega (arith, rw f at here) }
+  pub place_found : {r : Option ℕ} → option_map (λ (x : ℕ). x) r ≡ find (λ (j : ℕ). same s (service_in b j)) (range_with_len 0 (length b / 512))
+      → r ≡ if_below (length b / 512) (place_of s (decode_register b))
+  unfolding left decode_register
+  place_found {r} e = sym (kept r) ∙ e ∙ place_listed (length b / 512) 0 ∙ rw (zero-add (length b / 512), zero-add (place_of s (said (length b / 512) b)))
 
 -- what stands at the place
 both_more : (p n : ℕ) → ltb (suc p) (suc n) ≡ ltb p n
@@ -233,9 +220,16 @@ module _ (s b : List ℕ) (p : ℕ) (e : p ≡ place_of s (decode_register b)) w
   unfolding decode_register service_in
   service_found h = same-eq s (decode_entry (part (512 * p) 512 b)).service (service_place s (length b / 512) b p e h)
 
--- `block_at`
-pub block_part : (b : List ℕ) (k : ℕ) → part (512 * k) (512 * k + 512 - 512 * k) b ≡ part (512 * k) 512 b
-block_part b k = let w : 512 * k + 512 - 512 * k ≡ 512 = omega arith in rw w
+-- `block_at`: a block among the chunks is its part of the whole
+chunk_at : (m k : ℕ) (b d : List ℕ) → k < m → get_or (first_chunks 512 m b) k d ≡ part (512 * k) 512 b
+chunk_at zero k b d h = absurd (omega arith)
+chunk_at (suc m) zero b d h = refl
+chunk_at (suc m) (suc k) b d h =
+    let e : 512 + 512 * k ≡ 512 * suc k = omega arith in
+    chunk_at m k (drop 512 b) d (omega arith) ∙ rw (drop-drop (512 * k) 512 b, e)
+
+pub block_lent : (b d : List ℕ) (k : ℕ) {s : List (List ℕ)} → 512 * k + 512 ≤ length b → s ≡ first_chunks 512 (length b / 512) b → get_or s k d ≡ part (512 * k) 512 b
+block_lent b d k h c = rw c (chunk_at (length b / 512) k b d (omega arith))
 
 -- `registered`
 pub registered_some : (s b : List ℕ) (o : Option ℕ) → o ≡ if_below (length b / 512) (place_of s (decode_register b)) → is_some o ≡ registered s (decode_register b)
@@ -257,36 +251,15 @@ module _ (b t : List ℕ) (k : ℕ) (et : t ≡ part (512 * k) 512 b) (q : Bool)
   unfolding at_fault
   fault_twice s r f es er = er ∙ rw (this, f, es)
 
--- `first_fault`: the first of what is left is the first of all
-pub record Seeking (b : List ℕ) (m k : ℕ) : Type 0 where
-  pub count : m ≡ length b / 512
-  pub high : k ≤ m
-  pub first : fault_from k (m - k) b ≡ fault_from 0 (length b / 512) b
-
-pub seek_start : (b : List ℕ) (m : ℕ) → m ≡ length b / 512 → Seeking b m 0
-seek_start b m e = record { count = e; high = omega arith; first = rw (sub-zero m, e) }
-
-module _ (b : List ℕ) (m k : ℕ) (l : Seeking b m k) where
-  pub seek_none : m ≤ k → None ≡ if_below (length b / 512) (fault_from 0 (length b / 512) b)
+-- `first_fault`
+module _ (b : List ℕ) where
+  fault_listed : (n k : ℕ) → find (at_fault b) (range_with_len k n) ≡ if_below (k + n) (fault_from k n b)
   unfolding fault_from
-  seek_none h =
-      let z : m - k ≡ 0 = omega arith in
-      let q : k ≡ fault_from 0 (length b / 512) b = sym (ap (λ (i : ℕ). fault_from k i b) z) ∙ l.first in
-      none_below (length b / 512) (fault_from 0 (length b / 512) b) (omega (arith, l.high, l.count))
+  fault_listed zero k = none_below (k + 0) k (omega arith)
+  fault_listed (suc n) k = step (at_fault b k) k n (fault_from (k + 1) n b) (fault_from k (suc n) b) (find (at_fault b) (range_with_len (k + 1) n)) refl (fault_listed n (k + 1))
 
-  pub seek_inside : k < m → 512 * k + 512 ≤ length b
-  seek_inside h = omega (arith, l.count)
-
-  module _ (h : k < m) (r : Bool) (e : r ≡ at_fault b k) where
-    turn : if r k (fault_from (k + 1) (m - (k + 1)) b) ≡ fault_from 0 (length b / 512) b
-    unfolding fault_from
-    turn = let n : m - k ≡ suc (m - (k + 1)) = omega arith in sym (sym l.first ∙ ap (λ (i : ℕ). fault_from k i b) n ∙ rw (← e))
-
-    pub seek_hit : r ≡ true → Some k ≡ if_below (length b / 512) (fault_from 0 (length b / 512) b)
-    seek_hit f = some_below (length b / 512) (fault_from 0 (length b / 512) b) k (rw f at turn) (omega (arith, l.count))
-
-    pub seek_next : r ≡ false → Seeking b m (k + 1)
-    seek_next f = record { count = l.count; high = omega arith; first = rw f at turn }
+  pub fault_found : {r : Option ℕ} → option_map (λ (x : ℕ). x) r ≡ find (at_fault b) (range_with_len 0 (length b / 512)) → r ≡ if_below (length b / 512) (fault_from 0 (length b / 512) b)
+  fault_found {r} e = sym (kept r) ∙ e ∙ fault_listed (length b / 512) 0 ∙ rw (zero-add (length b / 512))
 
 -- `check` and `register_lawful`
 module _ (b : List ℕ) (s : Bool) (es : s ≡ register_shape (length b)) where

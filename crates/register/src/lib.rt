@@ -43,31 +43,29 @@ fn entry_right(service: &[u8], callback: &[u8]) -> bool
 // ---- one block
 
 // A text of a block where it stands, by the field of its length. A length beyond the block reads to the block's end.
-fn text_of<'a>(b: &'a [u8], field: usize, at: usize) -> &'a [u8]
-    requires { (length b.now ≡ 512) × (field ≤ 2) × (at ≤ 204) }
+fn text_of<'a>(b: &'a [u8; 512], field: usize, at: usize) -> &'a [u8]
+    requires { (field ≤ 2) × (at ≤ 204) }
     ensures { result.now ≡ part at (num field 2 b.now) b.now }
 {
     let to = at + usize::from(block::read::<u16>(b, field));
     &b[at..to.min(512)]
 }
 
-fn service_of<'a>(b: &'a [u8]) -> &'a [u8]
-    requires { length b.now ≡ 512 }
+fn service_of<'a>(b: &'a [u8; 512]) -> &'a [u8]
     ensures { result.now ≡ (decode_entry b.now).service }
 {
     text_of(b, 0, 4)
 }
 
-fn callback_in<'a>(b: &'a [u8]) -> &'a [u8]
-    requires { length b.now ≡ 512 }
+fn callback_in<'a>(b: &'a [u8; 512]) -> &'a [u8]
     ensures { result.now ≡ (decode_entry b.now).callback }
 {
     text_of(b, 2, 204)
 }
 
 // Behind texts of n and m bytes.
-fn rest_right(b: &[u8], n: usize, m: usize) -> bool
-    requires { (length b.now ≡ 512) × (n ≤ 200) × (m ≤ 200) }
+fn rest_right(b: &[u8; 512], n: usize, m: usize) -> bool
+    requires { (n ≤ 200) × (m ≤ 200) }
     ensures { result ≡ rest_right n m b.now }
 {
     let service = 4 + n;
@@ -77,8 +75,7 @@ fn rest_right(b: &[u8], n: usize, m: usize) -> bool
         & block::all_within(&b[callback..508], 0, 0)
 }
 
-fn block_right(b: &[u8]) -> bool
-    requires { length b.now ≡ 512 }
+fn block_right(b: &[u8; 512]) -> bool
     ensures { result ≡ panel_right b.now }
 {
     let service = service_of(b);
@@ -89,13 +86,12 @@ fn block_right(b: &[u8]) -> bool
 // ---- services
 
 // Block k, where it stands.
-fn block_at<'a>(b: &'a [u8], k: usize) -> &'a [u8]
+fn block_at<'a>(b: &'a [u8], k: usize) -> &'a [u8; 512]
     requires { 512 * k + 512 ≤ length b.now }
-    ensures whole { length result.now ≡ 512 }
-    ensures stands { result.now ≡ part (512 * k) 512 b.now }
+    ensures { result.now ≡ part (512 * k) 512 b.now }
 {
-    let from = 512 * k;
-    &b[from..from + 512]
+    let (blocks, _) = b.as_chunks::<512>();
+    &blocks[k]
 }
 
 // The service of block k, where it stands.
@@ -119,12 +115,7 @@ fn place_of(b: &[u8], service: &[u8]) -> Option<usize>
     ensures { result ≡ if_below (length b.now / 512) (place_of service.now (decode_register b.now)) }
 {
     let m = b.len() / 512;
-    for k in 0..m {
-        if text::same(service, service_at(b, k)) {
-            return Some(k);
-        }
-    }
-    None
+    (0..m).find(|k| text::same(service, service_at(b, *k)))
 }
 
 fn registered(b: &[u8], service: &[u8]) -> bool
@@ -147,12 +138,7 @@ fn first_fault(b: &[u8]) -> Option<usize>
     ensures { result ≡ if_below (length b.now / 512) (fault_from 0 (length b.now / 512) b.now) }
 {
     let m = b.len() / 512;
-    for k in 0..m {
-        if at_fault(b, k) {
-            return Some(k);
-        }
-    }
-    None
+    (0..m).find(|k| at_fault(b, *k))
 }
 
 fn shape_right(n: usize) -> bool

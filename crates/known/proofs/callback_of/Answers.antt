@@ -1,13 +1,12 @@
 -- The callback at the place. Assumes nothing.
-use borrow.Author.Rules.{rules}
-use Rattle.known.proofs.Laws.{place_inside, callback_there, callback_none}
+use Rattle.std.proofs.Common.{rules}
+use Rattle.std.proofs.iter.Serving.{serving}
+use Rattle.request.specs.Value.{text_of}
+use Rattle.known.proofs.Laws.{place_inside, callback_told}
 use Rattle.known.proofs.callback_of.Goals as goal
 
-pub callback_at-requires : goal.callback_at-requires
-callback_at-requires c = search (rules, place_inside)
+pub map_or-requires : goal.map_or-requires
+map_or-requires c = grind (serving, place_inside)
 
-pub returns-in-Some : goal.returns-in-Some
-returns-in-Some c = search (rules, callback_there)
-
-pub returns-in-None : goal.returns-in-None
-returns-in-None c = search (rules, callback_none)
+pub returns : goal.returns
+returns c = callback_told (text_of c.args.service) c.args.register.now c.map_or.result.now (λ p. search rules) c.standing.result c.standing.ensures c.map_or.ensures (λ k q. search rules)

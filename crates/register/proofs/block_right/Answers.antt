@@ -9,7 +9,7 @@ rest_right-requires c = search (rules, limit_service, limit_callback)
 
 pub returns-then-entry_right : goal.returns-then-entry_right
 returns-then-entry_right c =
-    let bytes : Bytes c.args.b.now = record { each = λ i. (c.type_inv.b i).fits } in
+    let bytes : Bytes c.args.b.now = record { each = c.fits-b } in
     search (block_yes, bytes)
 
 pub returns-else-entry_right : goal.returns-else-entry_right

@@ -1,19 +1,12 @@
--- The first of what is left is the first of all. Assumes nothing.
-use borrow.Author.Rules.{rules}
-use Rattle.register.proofs.Laws.{seek_start, seek_inside, seek_hit, seek_next, seek_none}
+-- The first block that `find` meets at fault. Assumes nothing.
+use Rattle.std.proofs.Common.{refl, ◌/◌, length, arith, rules, tests}
+use Rattle.std.proofs.lemmas.Iterator.{YieldsList-from_range}
+use Rattle.std.proofs.lemmas.Iterator.Search.{find_from_yields_List}
+use Rattle.protocol.specs.Panels.{at_fault}
+use Rattle.register.proofs.Laws.{fault_found}
 use Rattle.register.proofs.first_fault.Goals as goal
 
-pub loop-k-init : goal.loop-k-init
-loop-k-init c = search (rules, seek_start)
-
-pub at_fault-requires : goal.at_fault-requires
-at_fault-requires c = search (rules, seek_inside)
-
-pub returns-then-at_fault : goal.returns-then-at_fault
-returns-then-at_fault c = search (rules, seek_hit)
-
-pub loop-k-preserved : goal.loop-k-preserved
-loop-k-preserved c = search (rules, seek_next)
-
 pub returns : goal.returns
-returns c = search (rules, seek_none)
+returns c =
+    fault_found c.args.b.now
+    (find_from_yields_List (at_fault c.args.b.now) _ _ _ c.find.ensures.ran (YieldsList-from_range 0 (length c.args.b.now / 512) _ refl (omega arith)) (λ x b q k. search (rules, tests)))

@@ -1,19 +1,13 @@
--- What is left decides. Assumes nothing.
-use borrow.Author.Rules.{rules}
-use Rattle.register.proofs.Laws.{look_start, look_inside, look_some, look-next, look_nowhere}
+-- The first block that `find` meets with the service. Assumes nothing.
+use Rattle.std.proofs.Common.{refl, ◌/◌, length, arith, rules, tests}
+use Rattle.std.proofs.lemmas.Iterator.{YieldsList-from_range}
+use Rattle.std.proofs.lemmas.Iterator.Search.{find_from_yields_List}
+use Rattle.protocol.specs.Bytes.{same}
+use Rattle.protocol.specs.Panels.{service_in}
+use Rattle.register.proofs.Laws.{place_found}
 use Rattle.register.proofs.place_of.Goals as goal
 
-pub loop-k-init : goal.loop-k-init
-loop-k-init c = search (rules, look_start)
-
-pub service_at-requires : goal.service_at-requires
-service_at-requires c = search (rules, look_inside)
-
-pub returns-then-same : goal.returns-then-same
-returns-then-same c = search (rules, look_some)
-
-pub loop-k-preserved : goal.loop-k-preserved
-loop-k-preserved c = search (rules, look-next)
-
 pub returns : goal.returns
-returns c = search (rules, look_nowhere)
+returns c =
+    place_found c.args.service.now c.args.b.now
+    (find_from_yields_List (λ j. same c.args.service.now (service_in c.args.b.now j)) _ _ _ c.find.ensures.ran (YieldsList-from_range 0 (length c.args.b.now / 512) _ refl (omega arith)) (λ x b q k. search (rules, tests)))
