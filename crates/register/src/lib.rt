@@ -193,6 +193,7 @@ fn panel_refusal(service: &[u8], callback: &[u8], size: usize) -> Result<(), Ref
     Ok(())
 }
 
+// An array here, lent from the caller's slice by `try_into`, was tried, and the proof that the slice holds the entry didn't close.
 fn put_entry(b: &mut [u8], service: &[u8], callback: &[u8])
     requires { (length b.old ≡ 512) × (length service.now ≤ 200) × (length callback.now ≤ 200) }
     ensures { b.new ≡ encode_entry (entry service.now callback.now) }
