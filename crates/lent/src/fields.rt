@@ -28,20 +28,25 @@ impl<'a> Fields<'a> {
         Some(self.byte()? != 0)
     }
 
-    pub fn number(&mut self) -> Option<u32>
-        ensures { MatchOption result (length self.old.rest.now < 4) (λ n. (n ≡ from_le_bytes w32 (take 4 self.old.rest.now)) × (self.new.rest.now ≡ drop 4 self.old.rest.now)) }
+    // So many bytes.
+    fn array<const N: usize>(&mut self) -> Option<[u8; N]>
+        ensures { MatchOption result (length self.old.rest.now < N) (λ bytes. (bytes ≡ take N self.old.rest.now) × (self.new.rest.now ≡ drop N self.old.rest.now)) }
     {
         let (bytes, rest) = self.rest.split_first_chunk()?;
         self.rest = rest;
-        Some(u32::from_le_bytes(*bytes))
+        Some(*bytes)
+    }
+
+    pub fn number(&mut self) -> Option<u32>
+        ensures { MatchOption result (length self.old.rest.now < 4) (λ n. (n ≡ from_le_bytes w32 (take 4 self.old.rest.now)) × (self.new.rest.now ≡ drop 4 self.old.rest.now)) }
+    {
+        Some(u32::from_le_bytes(self.array()?))
     }
 
     pub fn long(&mut self) -> Option<u64>
         ensures { MatchOption result (length self.old.rest.now < 8) (λ n. (n ≡ from_le_bytes w64 (take 8 self.old.rest.now)) × (self.new.rest.now ≡ drop 8 self.old.rest.now)) }
     {
-        let (bytes, rest) = self.rest.split_first_chunk()?;
-        self.rest = rest;
-        Some(u64::from_le_bytes(*bytes))
+        Some(u64::from_le_bytes(self.array()?))
     }
 
     // A number that is at most so many: None where it is more, too.
