@@ -1,5 +1,5 @@
 // The fields of a frame, taken one behind the other. Numbers are little-endian; a text has its length before it, a number of four bytes.
-ghost use Rattle.std.specs.Prelude.{◌≡◌, ◌∷◌, [], ◌<◌, ◌≤◌, length, take, drop, MatchOption, IfSome};
+ghost use Rattle.std.specs.Prelude.{◌≡◌, ◌∷◌, [], ◌<◌, ◌≤◌, ltb, length, take, drop, slice_index, MatchOption, IfSome};
 ghost use Rattle.std.specs.Int.{w32, w64, from_le_bytes};
 
 // What is left of a frame. None says that a field is cut: the frame ends within it.
@@ -24,7 +24,9 @@ impl<'a> Fields<'a> {
     }
 
     // A byte that says yes where it is not 0.
-    pub fn flag(&mut self) -> Option<bool> {
+    pub fn flag(&mut self) -> Option<bool>
+        ensures { MatchOption result (self.old.rest.now ≡ []) (λ yes. (yes ≡ ltb 0 (slice_index self.old.rest.now 0)) × (self.new.rest.now ≡ drop 1 self.old.rest.now)) }
+    {
         Some(self.byte()? != 0)
     }
 
