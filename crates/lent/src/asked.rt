@@ -1,6 +1,7 @@
 // The frame of an answer, behind its letter: u8 post, u64 time, u8 verdict, u32 and u32 for the sizes of output and cookie output, then the
 // texts target, body, cookie and random.
-ghost use Rattle.std.specs.Prelude.{◌≤◌};
+ghost use Rattle.std.specs.Prelude.{◌≡◌, ◌≤◌};
+ghost use Rattle.protocol.specs.Calls.{inputs, result_of, answer_of};
 
 use super::Fields;
 use protocol::{Method, Outcome};
@@ -57,7 +58,11 @@ impl<'a> Request<'a> {
         register: &[u8],
         out: &mut [u8],
         cookie_out: &mut [u8],
-    ) -> Outcome {
+    ) -> Outcome
+        ensures { result_of result table.new out.new cookie_out.new
+            ≡ answer_of (inputs table.old register.now self.now.method self.now.target.now self.now.body.now self.now.cookie.now
+            self.now.time self.now.random.now self.now.verdict out.old cookie_out.old) }
+    {
         signon::answer(
             table,
             register,

@@ -1,5 +1,5 @@
 // The fields of a frame, taken one behind the other. Numbers are little-endian; a text has its length before it, a number of four bytes.
-ghost use Rattle.std.specs.Prelude.{◌≡◌, ◌∷◌, [], ◌<◌, ◌≤◌, length, take, drop, MatchOption, IfSome};
+ghost use Rattle.std.specs.Prelude.{◌≡◌, ◌∷◌, [], ◌<◌, ◌≤◌, ltb, length, take, drop, slice_index, MatchOption, IfSome};
 ghost use Rattle.std.specs.Int.{w32, w64, from_le_bytes};
 
 // What is left of a frame. None says that a field is cut: the frame ends within it.
@@ -24,24 +24,31 @@ impl<'a> Fields<'a> {
     }
 
     // A byte that says yes where it is not 0.
-    pub fn flag(&mut self) -> Option<bool> {
+    pub fn flag(&mut self) -> Option<bool>
+        ensures { MatchOption result (self.old.rest.now ≡ []) (λ yes. (yes ≡ ltb 0 (slice_index self.old.rest.now 0)) × (self.new.rest.now ≡ drop 1 self.old.rest.now)) }
+    {
         Some(self.byte()? != 0)
+    }
+
+    // So many bytes.
+    fn array<const N: usize>(&mut self) -> Option<[u8; N]>
+        ensures { MatchOption result (length self.old.rest.now < N) (λ bytes. (bytes ≡ take N self.old.rest.now) × (self.new.rest.now ≡ drop N self.old.rest.now)) }
+    {
+        let (bytes, rest) = self.rest.split_first_chunk()?;
+        self.rest = rest;
+        Some(*bytes)
     }
 
     pub fn number(&mut self) -> Option<u32>
         ensures { MatchOption result (length self.old.rest.now < 4) (λ n. (n ≡ from_le_bytes w32 (take 4 self.old.rest.now)) × (self.new.rest.now ≡ drop 4 self.old.rest.now)) }
     {
-        let (bytes, rest) = self.rest.split_first_chunk()?;
-        self.rest = rest;
-        Some(u32::from_le_bytes(*bytes))
+        Some(u32::from_le_bytes(self.array()?))
     }
 
     pub fn long(&mut self) -> Option<u64>
         ensures { MatchOption result (length self.old.rest.now < 8) (λ n. (n ≡ from_le_bytes w64 (take 8 self.old.rest.now)) × (self.new.rest.now ≡ drop 8 self.old.rest.now)) }
     {
-        let (bytes, rest) = self.rest.split_first_chunk()?;
-        self.rest = rest;
-        Some(u64::from_le_bytes(*bytes))
+        Some(u64::from_le_bytes(self.array()?))
     }
 
     // A number that is at most so many: None where it is more, too.

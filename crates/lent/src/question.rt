@@ -1,5 +1,6 @@
 // The frame of a visit, behind its letter: u32 number, u64 time, u32 for the size of the output, then the texts cookie and random.
-ghost use Rattle.std.specs.Prelude.{◌≤◌};
+ghost use Rattle.std.specs.Prelude.{◌≡◌, ◌≤◌};
+ghost use Rattle.protocol.specs.Visits.{visit_read, visit_of};
 
 use super::Fields;
 use protocol::Visit;
@@ -33,7 +34,10 @@ impl<'a> Question<'a> {
     }
 
     // The call, on the bytes that the frame names.
-    pub fn visit(&self, table: &[u8], out: &mut [u8]) -> Visit {
+    pub fn visit(&self, table: &[u8], out: &mut [u8]) -> Visit
+        ensures { visit_read result table.now out.new
+            ≡ visit_of table.now self.now.cookie.now self.now.number self.now.time self.now.random.now out.old }
+    {
         signon::visit(table, self.cookie, self.number, self.time, self.random, out)
     }
 }

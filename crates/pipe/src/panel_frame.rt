@@ -9,7 +9,7 @@ pub fn panel(mut fields: Fields, out: &mut FrameOut) -> Option<()> {
     let callback = fields.text()?;
     fields.end()?;
     let mut block = [0u8; 512];
-    let refusal = protocol::number_of(signon::panel(service, callback, &mut block));
-    out.reply_panel(refusal, told_after(refusal, &block));
+    let done = signon::panel(service, callback, &mut block);
+    out.reply_panel(protocol::number_of(done), told_after(done, &block));
     Some(())
 }

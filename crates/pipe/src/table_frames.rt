@@ -3,6 +3,7 @@ ghost use Rattle.std.specs.Prelude.{◌≤◌, length};
 
 use super::frame_out::FrameOut;
 use lent::{Fields, Kept};
+use protocol::Refusal;
 
 // The register from here on, as it is, and what is wrong with it: the refusal's number and the first block at fault, or 0 and 0.
 pub fn take_register(
@@ -48,14 +49,18 @@ pub fn format(table: &mut Kept<65536>, mut fields: Fields, out: &mut FrameOut) -
     fields.end()?;
     let table = table.resize(size)?;
     table.fill(v);
-    let refusal = protocol::number_of(signon::format(table, time));
-    out.put_refusal(b'F', refusal);
-    out.end = changed::put_changed(b"", told_after(refusal, table), &mut out.bytes, out.end);
+    let done = signon::format(table, time);
+    out.put_refusal(b'F', protocol::number_of(done));
+    out.end = changed::put_changed(b"", told_after(done, table), &mut out.bytes, out.end);
     Some(())
 }
+
 // What a call made, if it was not refused.
-pub fn told_after<'a>(refusal: u32, made: &'a [u8]) -> &'a [u8]
+pub fn told_after<'a>(done: Result<(), Refusal>, made: &'a [u8]) -> &'a [u8]
     ensures { length result.now ≤ length made.now }
 {
-    if refusal == 0 { made } else { &[] }
+    match done {
+        Ok(()) => made,
+        Err(_) => &[],
+    }
 }

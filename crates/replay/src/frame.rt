@@ -1,5 +1,5 @@
 // The fields of a frame, read from the input. Where a read fails, a buffer has its length, and its bytes may be others.
-ghost use Rattle.std.specs.Prelude.{◌≡◌, ◌+◌, ◌≤◌, length, IfOk};
+ghost use Rattle.std.specs.Prelude.{◌≡◌, ◌+◌, ◌≤◌, length, IfOk, OnErr};
 
 use lent::{Bad, Fields, read_full};
 use std::io;
@@ -32,7 +32,9 @@ pub fn read_letter(input: &mut impl Read) -> io::Result<Option<u8>> {
 }
 
 // Fills buf: a frame is cut where the input ends before.
-pub fn fill(input: &mut impl Read, buf: &mut [u8]) -> Result<(), Stop> {
+pub fn fill(input: &mut impl Read, buf: &mut [u8]) -> Result<(), Stop>
+    ensures err { OnErr result (length buf.new ≡ length buf.old) }
+{
     let got = read_full(input, buf)?;
     if got < buf.len() {
         return Err(Stop::Bad(Bad::Cut));
@@ -77,7 +79,8 @@ pub fn size(input: &mut impl Read, most: usize) -> Result<usize, Stop>
 
 // A text, put at the start of buf: how many bytes it has.
 pub fn text(input: &mut impl Read, buf: &mut [u8]) -> Result<usize, Stop>
-    ensures { IfOk result (λ n. n ≤ length buf.new) }
+    ensures ok { IfOk result (λ n. n ≤ length buf.new) }
+    ensures err { OnErr result (length buf.new ≡ length buf.old) }
 {
     let n = size(input, buf.len())?;
     fill(input, &mut buf[..n])?;
@@ -87,7 +90,8 @@ pub fn text(input: &mut impl Read, buf: &mut [u8]) -> Result<usize, Stop>
 // So many bytes more of a frame, put behind those before a place: where they end.
 fn gather_bytes(input: &mut impl Read, frame: &mut [u8], at: usize, n: usize) -> Result<usize, Stop>
     requires { at ≤ length frame.old }
-    ensures { IfOk result (λ end. (end ≡ at + n) × (end ≤ length frame.new)) }
+    ensures ok { IfOk result (λ end. (end ≡ at + n) × (end ≤ length frame.new)) }
+    ensures err { OnErr result (length frame.new ≡ length frame.old) }
 {
     if frame.len() - at < n {
         return Err(Stop::Bad(Bad::Cut));
@@ -100,7 +104,8 @@ fn gather_bytes(input: &mut impl Read, frame: &mut [u8], at: usize, n: usize) ->
 // A text with its length before it, in the same way.
 fn gather_text(input: &mut impl Read, frame: &mut [u8], at: usize) -> Result<usize, Stop>
     requires { at ≤ length frame.old }
-    ensures { IfOk result (λ end. end ≤ length frame.new) }
+    ensures ok { IfOk result (λ end. end ≤ length frame.new) }
+    ensures err { OnErr result (length frame.new ≡ length frame.old) }
 {
     let from = gather_bytes(input, frame, at, 4)?;
     let n = block::read::<u32>(frame, at);
