@@ -16,7 +16,7 @@ use Rattle.protocol.specs.Steps.{Brought, Step, step, remove, slot_named, ticket
 use Rattle.protocol.specs.declared.Validator.{Validator}
 use Rattle.protocol.specs.declared.Validator.TheVariants as validator
 use Rattle.protocol.proofs.Laws.{part-long}
-use Rattle.protocol.proofs.Proper.{Plain, Proper}
+use Rattle.protocol.proofs.Proper.{Proper}
 use Rattle.protocol.proofs.Courses.{FormCourse, shows, no_form, AdmitCourse, signed_in_lem, tickets, StandCourse, stands, no_ticket, OpenCourse, opens, no_session, GetCourse, unknown, standing_by, away, form_shown, get_course, AcceptedCourse, fresh, kept, changed, PostCourse, again, enters, post_course, AcceptCourse, plainly, calls, tells, ShownCourse, lacks, none, spends, burns, accepts, shown_course, FinishCourse, raises, drops, finish_course, ProxyCourse, fails, issues, proxy_course}
 use Rattle.protocol.proofs.Sound.{Sound, fit_slot}
 use Rattle.protocol.proofs.NewSound.{owned}

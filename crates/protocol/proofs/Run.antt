@@ -5,7 +5,7 @@ use mathlib.Core.Bool.{true}
 use mathlib.Core.List.{List, [], ◌∷◌}
 use Prim.Native.Nat.{ℕ}
 use lib.Dec.{eqb}
-use lib.ListN.{length, take, replicate}
+use lib.ListN.{take, replicate}
 use Rattle.protocol.specs.Bytes.{if, ascii, decimal, same, among, all_differ, all_within, holds, le_of, bytes_of, spliced, up_to, past, cuts, digits, hex, joined, blocks}
 use Rattle.protocol.specs.Utf8.{no_point, announced, with_tails, not_below, point_at, points_from, points, point_right, points_right, name_right}
 use Rattle.protocol.specs.Blocks.{check_from, house_check, sealed}

@@ -14,7 +14,7 @@ use Rattle.protocol.specs.Records.{Rec, free_rec, live, own_right, fields_right,
 use Rattle.protocol.specs.Table.{Table, rec_at, put_at, encode_table, table_lawful, count_kind, login_cap, last_time}
 use Rattle.protocol.specs.Steps.{clear_rec, end_rec, tick, clear, remove, end_session, slot_for, expiry_for, new_rec, add}
 use Rattle.protocol.specs.Held.{Fits, AllFit}
-use Rattle.protocol.proofs.Laws.{length_pad, rec_right, Rules, rules, rules_hold_lem, lawful_written, part-long}
+use Rattle.protocol.proofs.Laws.{length_pad, rec_right, Rules, rules_hold_lem, lawful_written, part-long}
 use Rattle.protocol.proofs.Kept.{Unnamed, tick_rules, clear_rules, remove_rules, end_rules}
 use Rattle.protocol.proofs.Added.{Room, add_rules}
 

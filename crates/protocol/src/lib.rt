@@ -2,8 +2,21 @@
 // or checking a register gives. And what a step decides before it acts, and dates, of which meaning and code speak alike.
 #![tactic(auto)]
 
-ghost use Rattle.std.specs.Prelude.{◌≡◌};
+ghost use Rattle.std.specs.Prelude.{◌≡◌, ◌≤◌};
+ghost use Rattle.protocol.specs.Bytes.{if};
+ghost use Rattle.protocol.specs.Table.{last_time};
 ghost use Rattle.protocol.specs.Refusals.{refusal_number, number_of_result};
+ghost use Rattle.protocol.specs.declared.Method.TheVariants as method;
+
+// The latest time, 2^40 seconds.
+pub const LAST_TIME: u64 = 1099511627776;
+
+// A time in seconds, at most the latest.
+#[derive(Clone, Copy)]
+pub struct Time {
+    pub seconds: u64,
+    pub ghost in_range: { seconds ≤ last_time },
+}
 
 // Why a call is refused. Each has the number by which a host is told, and the calls judge them in that order.
 #[derive(Clone, Copy, PartialEq, Eq)]
@@ -50,6 +63,15 @@ pub fn number_of(done: Result<(), Refusal>) -> u32
 pub enum Method {
     Get,
     Post,
+}
+
+// By whether it is a POST, as a host tells it.
+impl From<bool> for Method {
+    ghost from_gives = { λ post m. m ≡ if post method.Post method.Get };
+
+    fn from(post: bool) -> Method {
+        if post { Method::Post } else { Method::Get }
+    }
 }
 
 // The three validators: /cas/validate, /cas/serviceValidate, /cas/proxyValidate.
