@@ -1,77 +1,98 @@
 -- Fields read and written in place, over any width. Assumes nothing.
-use mathlib.Core.Path.{◌≡◌, refl, sym, ◌∙◌}
-use mathlib.Core.List.{List, ◌++◌, append_assoc, append-nil}
-use Prim.Native.Nat.{ℕ, suc, ◌+◌, ◌-◌, ◌*◌, ◌/◌, ◌%◌, ◌^◌, ◌<◌, ◌≤◌}
-use native.Mathlib.Nat.{pow-suc, lt_of_lt_of_le, pow-le-pow_right}
+use mathlib.Core.Path.{◌≡◌, refl, sym, ap, ◌∙◌}
+use mathlib.Core.List.{List, [], ◌∷◌, ◌++◌, append-nil}
+use Prim.Native.Nat.{ℕ, zero, suc, ◌+◌, ◌-◌, ◌*◌, ◌/◌, ◌%◌, ◌^◌, ◌<◌, ◌≤◌}
+use native.Mathlib.Nat.{pow-suc}
 use native.Mathlib.Numerals.{add-one}
 use native.Mathlib.Omega.{arith}
 use lib.Dec.{lit<}
-use lib.ListN.{length, take, drop, set, get_or, drop_of_length-le}
-use lib.Seq.{drop-cons, sets, sets-eq, length-take-le}
-use Rattle.protocol.specs.Bytes.{le_of, bytes_of, num, zeros, pad_to, spliced}
+use lib.ListN.{length, take, drop, set, get_or, drop_of_length-le, length-append, length-replicate}
+use lib.Seq.{drop-cons, sets, sets-eq, take_all}
+use borrow.Rule.Slice.PartMut.{put_mid}
+use Rattle.std.specs.Int.{w64, from_le_bytes}
+use Rattle.std.proofs.lemmas.List.{drop-replicate}
+use Rattle.protocol.specs.Bytes.{le_of, bytes_of, num, part, zeros, pad_to, spliced}
 use Rattle.protocol.specs.Blocks.{house_check, sealed}
-use Rattle.protocol.proofs.Laws.{length_bytes}
+use Rattle.protocol.proofs.Laws.{length_bytes, part-long}
 use Rattle.text.proofs.Splice.{splice_append}
+use Rattle.text.proofs.Laws.{part_wrote}
+use Rattle.block.proofs.Bytewise.{part_bytes}
 
 -- one byte and the rest
 num-suc : (k : ℕ) (s : List ℕ) (at : ℕ) → at < length s → num at (suc k) s ≡ get_or s at 0 + 256 * num (at + 1) k s
 unfolding le_of
 num-suc k s at h = rw (add-one, drop-cons s at 0)
 
--- the reader goes down from the highest byte: those from k on are read of n bytes, and v is their number
-pub record Got (s : List ℕ) (at n k v : ℕ) : Type 0 where
-  pub high : k ≤ n
-  pub below : v < 256 ^ (n - k)
-  pub is : v ≡ num (at + k) (n - k) s
-
-pub got_none : (s : List ℕ) (at n : ℕ) → Got s at n n 0
+-- the number that eight bytes spell, as the library reads it
+eight : (s : List ℕ) → length s ≡ 8 → from_le_bytes w64 s ≡ le_of s
 unfolding le_of
-got_none s at n =
-    let e : n - n ≡ 0 = omega arith in
-    record { high = omega arith; below = rw e (lit< tt); is = rw e }
+eight s h =
+    let w : num 0 8 s ≡ le_of s = ap le_of (take_all 8 s (omega arith)) in
+    omega (
+      arith,
+      w,
+      num-suc 7 s 0 (omega arith),
+      num-suc 6 s 1 (omega arith),
+      num-suc 5 s 2 (omega arith),
+      num-suc 4 s 3 (omega arith),
+      num-suc 3 s 4 (omega arith),
+      num-suc 2 s 5 (omega arith),
+      num-suc 1 s 6 (omega arith),
+      num-suc 0 s 7 (omega arith),
+    )
 
-pub got_more : (s : List ℕ) (at n k v : ℕ) {w : ℕ} → Got s at n k v → 0 < k → at + n ≤ length s → w ≡ get_or s (at + (k - 1)) 0 → w < 256 → Got s at n (k - 1) (v * 256 + w)
-got_more s at n k v g p h e l =
-    let a : n - (k - 1) ≡ suc (n - k) = omega (arith, g.high) in
-    let b : at + (k - 1) + 1 ≡ at + k = omega arith in
-    record {
-      high = omega (arith, g.high);
-      below = rw a (omega (arith, pow-suc 256 (n - k), g.below));
-      is = rw a (omega (arith, g.is, rw b at (num-suc (n - k) s (at + (k - 1)) (omega (arith, g.high)))));
-    }
+-- zeros behind the bytes of a number leave it
+then_zeros : (s : List ℕ) (k : ℕ) → le_of (s ++ zeros k) ≡ le_of s
+unfolding le_of
+then_zeros [] zero = refl
+then_zeros [] (suc k) = rw (then_zeros [] k)
+then_zeros (b ∷ s) k = rw (then_zeros s k)
 
--- so far there is room for one byte more
-pub got_room : (s : List ℕ) (at n k v : ℕ) → Got s at n k v → 0 < k → n ≤ 8 → v < 256 ^ 7
-got_room s at n k v g h m = let l : n - k ≤ 7 = omega arith in lt_of_lt_of_le g.below (pow-le-pow_right (lit< tt) l)
+-- bytes spell a number of their width
+spelt_below : (s : List ℕ) → ((i : ℕ) → get_or s i 0 < 256) → le_of s < 256 ^ length s
+unfolding le_of
+spelt_below [] h = lit< tt
+spelt_below (b ∷ s) h = let l : b < 256 = h 0 in omega (arith, pow-suc 256 (length s), l, spelt_below s (λ i. h (suc i)))
 
-pub got_all : (s : List ℕ) (at n k : ℕ) {v : ℕ} → Got s at n k v → k ≤ 0 → v ≡ num at n s
-got_all s at n k g h =
-    let a : n - k ≡ n = omega arith in
-    let b : at + k ≡ at = omega arith in
-    g.is ∙ rw (b, a)
+-- the reader: the field's bytes, and zeros behind them up to eight
+module _ (s field : List ℕ) (at n v : ℕ) (h : at + n ≤ length s) (k : n ≤ 8) (e : field ≡ take (at + n - at) (drop at s)) (q : v ≡ from_le_bytes w64 (put_mid 0 n (zeros 8) field)) where
+  its_bytes : field ≡ part at n s
+  its_bytes = let m : at + n - at ≡ n = omega arith in rw m at e
 
-pub got_below : (s : List ℕ) (at n k : ℕ) {v : ℕ} → Got s at n k v → k ≤ 0 → v < 256 ^ n
-got_below s at n k g h =
-    let a : n - k ≡ n = omega arith in
-    rw a at g.below
+  pub got_all : v ≡ num at n s
+  got_all =
+      let l : length field ≡ n = ap length its_bytes ∙ part-long at n s h in
+      let z : put_mid 0 n (zeros 8) field ≡ field ++ zeros (8 - n) = rw (drop-replicate {X = ℕ} n 8 0) refl in
+      let w : length (field ++ zeros (8 - n)) ≡ 8 = omega (arith, length-append field (zeros (8 - n)), length-replicate {A = ℕ} (8 - n) 0) in
+      q ∙ ap (from_le_bytes w64) z ∙ eight (field ++ zeros (8 - n)) w ∙ then_zeros field (8 - n) ∙ ap le_of its_bytes
 
--- stores one after the other are the text written over
-pub sets_spliced : (bs s : List ℕ) (at : ℕ) → at + length bs ≤ length s → sets s at bs ≡ spliced s at bs
-unfolding spliced
-sets_spliced bs s at h = sets-eq bs s at h ∙ append_assoc (take at s) bs (drop (at + length bs) s)
+  pub got_below : ((i : ℕ) → get_or s i 0 < 256) → v < 256 ^ n
+  got_below b = rw got_all (rw (part-long at n s h) at (spelt_below (part at n s) (part_bytes s b at n h)))
 
--- a turn of the number's writer: what is left to store
-pub put_more : (s : List ℕ) (at n i w : ℕ) → i < n
-    → sets (set s (at + i) (w % 256)) (at + (i + 1)) (bytes_of (n - (i + 1)) (w / 256)) ≡ sets s (at + i) (bytes_of (n - i) w)
-unfolding bytes_of
-put_more s at n i w h =
-    let a : n - i ≡ suc (n - (i + 1)) = omega arith in
-    let b : at + (i + 1) ≡ suc (at + i) = omega arith in
-    rw (a, b)
+-- the writer: what stands in the field, with the bytes that are left to store, is the number's bytes
+module _ (s : List ℕ) (at n v : ℕ) (h : at + n ≤ length s) where
+  pub put_start : sets (take (at + n - at) (drop at s)) 0 (bytes_of (n - 0) v) ≡ bytes_of n v
+  put_start =
+      let m : at + n - at ≡ n = omega arith in
+      let z : n - 0 ≡ n = omega arith in
+      let l : length (part at n s) ≡ n = part-long at n s h in
+      let b : length (bytes_of n v) ≡ n = length_bytes n v in
+      rw (m, z) (sets-eq (bytes_of n v) (part at n s) 0 (omega arith) ∙ rw (drop_of_length-le (part at n s) {i = 0 + length (bytes_of n v)} (omega arith)) (append-nil (bytes_of n v)))
 
-pub put_done : (s : List ℕ) (at n i w : ℕ) → n ≤ i → sets s at (bytes_of (n - i) w) ≡ s
-unfolding bytes_of
-put_done s at n i w h = let a : n - i ≡ 0 = omega arith in rw a
+  pub put_more : (t : List ℕ) (i w : ℕ) → i < length (take (at + n - at) (drop at s)) → sets t i (bytes_of (n - i) w) ≡ bytes_of n v → sets (set t i (w % 256)) (i + 1) (bytes_of (n - (i + 1)) (w / 256)) ≡ bytes_of n v
+  unfolding bytes_of
+  put_more t i w k e =
+      let m : at + n - at ≡ n = omega arith in
+      let l : i < n = rw (m, part-long at n s h) at k in
+      let a : n - i ≡ suc (n - suc i) = omega arith in
+      rw add-one (rw a at e)
+
+  pub put_done : (t : List ℕ) (i w : ℕ) → n ≤ i → sets t i (bytes_of (n - i) w) ≡ bytes_of n v → put_mid at (at + n - at) s t ≡ spliced s at (bytes_of n v)
+  unfolding bytes_of
+  put_done t i w k e =
+      let z : n - i ≡ 0 = omega arith in
+      let d : t ≡ bytes_of n v = rw z at e in
+      rw d (part_wrote s (bytes_of n v) at n h (length_bytes n v)).holds
 
 -- two texts written one after the other are one
 pub spliced_twice : (s xs ys : List ℕ) (at n : ℕ) → at + length xs ≡ n → n ≤ length s → spliced (spliced s at xs) n ys ≡ spliced s at (xs ++ ys)
@@ -81,13 +102,6 @@ spliced_twice s xs ys at n e h = rw (sym e) (splice_append s xs ys at (omega ari
 pub padded : (s src : List ℕ) (at n : ℕ) {c d : List ℕ} → at + n ≤ length s → length src ≤ n → c ≡ spliced s at src → d ≡ spliced c (at + length src) (zeros (n - length src))
     → d ≡ spliced s at (pad_to n src)
 padded s src at n h k e f = f ∙ rw e (spliced_twice s src (zeros (n - length src)) at (at + length src) refl (omega arith))
-
--- the front of a block
-pub front_long : (b : List ℕ) → length b ≡ 512 → 508 ≡ length (take 508 b)
-front_long b n = sym (length-take-le 508 b (omega arith))
-
-pub front_short : (b : List ℕ) → length b ≡ 512 → length (take 508 b) ≤ 4096
-front_short b n = omega (arith, front_long b n)
 
 -- a block sealed in place
 pub seal_done : (b : List ℕ) {c : List ℕ} {sum : ℕ} → length b ≡ 512 → sum ≡ house_check (take 508 b) → c ≡ spliced b 508 (bytes_of 4 sum) → c ≡ sealed (take 508 b)

@@ -34,20 +34,6 @@ right_in_place t k u h g p q =
     rw
     (p, q, e, l, take-take u 508 (drop (512 * k) t) g, take-take u 512 (drop (512 * k) t) (omega arith), part-part t (512 * k) 512 508 4 (lit≤ tt) (omega arith))
 
--- `check_to`: the bytes in front, and all of them with the zeros
-module _ (s : List ℕ) (u : ℕ) (h : u ≤ length s) where
-  pub front_long : u ≡ length (take u s)
-  front_long = sym (length-take-le u s h)
-
-  pub front_room : length s ≤ 4096 → length (take u s) + (length s - u) ≤ 4096
-  front_room g = omega (arith, length-take-le u s h)
-
--- the first part of it is there
-pub first_there : (t : List ℕ) (k u : ℕ) → 512 * k + 512 ≤ length t → u ≤ 508 → u ≤ length (part (512 * k) (512 * k + 508 - 512 * k) t)
-first_there t k u h g =
-    let e : 512 * k + 508 - 512 * k ≡ 508 = omega arith in
-    omega (arith, ap (λ (n : ℕ). length (part (512 * k) n t)) e, part-long (512 * k) 508 t (omega arith))
-
 -- where the bytes behind the first so many are zeros the check over these is the block's
 pub right_to : (b : List ℕ) (u : ℕ) → take 508 b ≡ take u b ++ zeros (508 - u) → check_right_to u b ≡ check_right b
 unfolding check_right_to check_right

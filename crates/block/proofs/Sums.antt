@@ -1,6 +1,6 @@
 -- The check's sums may run on unreduced. Assumes nothing.
 use mathlib.Core.Path.{◌≡◌, refl, ◌∙◌}
-use mathlib.Core.List.{List, ◌∷◌, ◌++◌, append-nil}
+use mathlib.Core.List.{List, ◌∷◌, ◌++◌}
 use Prim.Native.Nat.{ℕ, zero, suc, ◌+◌, ◌%◌, ◌*◌, ◌<◌, ◌≤◌}
 use native.Mathlib.Nat.{add-zero, zero-mul, suc-mul, mod-add-mod, add-mod-mod, mod-mod}
 use native.Mathlib.Numerals.{add-one}
@@ -8,7 +8,7 @@ use native.Mathlib.Omega.{arith}
 use lib.ListN.{length, drop, get_or, drop_of_length-le}
 use lib.Seq.{drop-cons}
 use Rattle.protocol.specs.Bytes.{zeros}
-use Rattle.protocol.specs.Blocks.{check_from, house_check}
+use Rattle.protocol.specs.Blocks.{check_from}
 
 cons : (a b x : ℕ) (xs : List ℕ) → check_from a b (x ∷ xs) ≡ check_from ((a + x) % 65535) ((b + (a + x) % 65535) % 65535) xs
 unfolding check_from
@@ -32,7 +32,3 @@ zeros_sums (suc n) a b =
 
 pub sums_done : (s : List ℕ) (n i a b : ℕ) → length s ≤ i → check_from (a % 65535) (b % 65535) (drop i s ++ zeros n) ≡ (b + n * a) % 65535 * 65536 + a % 65535
 sums_done s n i a b h = rw (drop_of_length-le s h) (zeros_sums n a b)
-
--- no zeros
-pub check_bare : (s : List ℕ) {r : ℕ} → r ≡ house_check (s ++ zeros 0) → r ≡ house_check s
-check_bare s e = e ∙ rw (append-nil s)

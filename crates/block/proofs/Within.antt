@@ -24,15 +24,12 @@ and-true true = refl
 and-true false = refl
 
 module _ (lo hi : ℕ) (s : List ℕ) where
-  pub pass_start : Passed lo hi s true 0
-  pass_start = record { high = omega arith; rest = refl }
-
   pass_cut : (i : ℕ) → i < length s → all_within lo hi (drop i s) ≡ within lo hi (get_or s i 0) && all_within lo hi (drop (i + 1) s)
   unfolding all_within
   pass_cut i h = rw (add-one, drop-cons s i 0)
 
-  pub pass-next : (good : Bool) (i : ℕ) → Passed lo hi s good i → i < length s → Passed lo hi s ((good && leb lo (get_or s i 0)) && leb (get_or s i 0) hi) (i + 1)
-  pass-next good i p h = record {
+  pub pass_on : (good : Bool) (i : ℕ) → Passed lo hi s good i → i < length s → Passed lo hi s ((good && leb lo (get_or s i 0)) && leb (get_or s i 0) hi) (i + 1)
+  pass_on good i p h = record {
     high = omega arith;
     rest = regroup good (leb lo (get_or s i 0)) (leb (get_or s i 0) hi) (all_within lo hi (drop (i + 1) s)) ∙ ap (λ r. good && r) (sym (pass_cut i h)) ∙ p.rest;
   }

@@ -27,6 +27,7 @@ pub trait Field: Copy {
     ghost fits: { WIDTH ≤ 8 };
 }
 
+// The three are alike, and no macro writes them: the gate takes no impl that a macro of this repository writes.
 impl Field for u16 {
     ghost WIDTH = { 2 };
 
@@ -83,16 +84,15 @@ impl Field for u64 {
 
 // ---- fields read
 
-// One reader for every width: the highest byte, which stands last, comes first.
+// One reader for every width: with zeros behind them the bytes spell the same number.
+#[tactic(auto, using(crate::proofs::Laws::got_all, crate::proofs::Laws::got_below))]
 pub fn get(s: &[u8], at: usize, n: usize) -> u64
     requires { (at + n ≤ length s.now) × (n ≤ 8) }
     ensures { (result ≡ num at n s.now) × (result < 256 ^ n) }
 {
-    let mut v: u64 = 0;
-    for i in (0..n).rev() {
-        v = v * 256 + u64::from(s[at + i]);
-    }
-    v
+    let mut bytes = [0; 8];
+    bytes[..n].copy_from_slice(&s[at..at + n]);
+    u64::from_le_bytes(bytes)
 }
 
 // A field's number, of its type's width.
@@ -104,6 +104,7 @@ pub fn read<F: Field>(s: &[u8], at: usize) -> F
 }
 
 // Is every byte from lo to hi? Zeros are the bytes from 0 to 0. The loop has no early end, so that many bytes are taken at a time.
+#[tactic(auto, using(crate::proofs::Within::pass_on, crate::proofs::Within::pass_all))]
 pub fn all_within(s: &[u8], lo: u8, hi: u8) -> bool
     ensures { result ≡ all_within lo hi s.now }
 {
@@ -116,19 +117,21 @@ pub fn all_within(s: &[u8], lo: u8, hi: u8) -> bool
 
 // ---- fields written
 
-// One writer for every width: from the lowest byte up.
+// One writer for every width: from the lowest byte up. A loop and no `to_le_bytes`, which has eight bytes: a field may be longer.
+#[tactic(auto, using(crate::proofs::Laws::put_start, crate::proofs::Laws::put_more, crate::proofs::Laws::put_done))]
 pub fn put(s: &mut [u8], at: usize, n: usize, v: u64)
     requires { at + n ≤ length s.old }
     ensures { s.new ≡ spliced s.old at (bytes_of n v) }
 {
     let mut w = v;
-    for i in 0..n {
-        s[at + i] = (w % 256) as u8;
+    for b in s[at..at + n].iter_mut() {
+        *b = (w % 256) as u8;
         w /= 256;
     }
 }
 
 // Not by `write`: here the clause says the byte itself, `v ∷ []`, where that one's would say `bytes_of 1 v`.
+#[tactic(auto, using(text::proofs::Splice::splice_byte))]
 pub fn put_u8(s: &mut [u8], at: usize, v: u8)
     requires { at + 1 ≤ length s.old }
     ensures { s.new ≡ spliced s.old at (v ∷ []) }
@@ -158,6 +161,7 @@ pub fn zeros_at(s: &mut [u8], at: usize, n: usize)
 }
 
 // A text, and zeros after it up to n bytes.
+#[tactic(auto, using(crate::proofs::Laws::padded))]
 pub fn pad_at(s: &mut [u8], at: usize, n: usize, src: &[u8])
     requires { (at + n ≤ length s.old) × (length src.now ≤ n) }
     ensures { s.new ≡ spliced s.old at (pad_to n src.now) }
@@ -171,6 +175,7 @@ pub fn pad_at(s: &mut [u8], at: usize, n: usize, src: &[u8])
 
 // The check of a text with n zeros behind it. Both sums run on unreduced over the text, and are reduced once at the end; over
 // zeros the first stays, and the second grows by the first at each.
+#[tactic(auto, using(crate::proofs::Sums::sums_turn, crate::proofs::Sums::sums_done), unfolding(protocol::specs::Blocks::house_check))]
 pub fn padded_check(s: &[u8], n: usize) -> u32
     requires { length s.now + n ≤ 4096 }
     ensures { result ≡ house_check (s.now ++ zeros n) }
@@ -213,6 +218,7 @@ pub fn block_ok_to(table: &[u8], slot: usize, used: usize) -> bool
 }
 
 // Is the check right of the block at a slot of the lent table?
+#[tactic(auto, using(crate::proofs::Parts::right_all))]
 pub fn block_ok(table: &[u8], slot: usize) -> bool
     requires { 512 * slot + 512 ≤ length table.now }
     ensures { result ≡ check_right (part (512 * slot) 512 table.now) }
@@ -221,9 +227,7 @@ pub fn block_ok(table: &[u8], slot: usize) -> bool
 }
 
 // The check of a block's first 508 bytes, written behind them.
-// The block is a slice, and its length a clause, for the reason that stands in `table` above what a block is filled with.
-pub fn seal(block: &mut [u8])
-    requires { length block.old ≡ 512 }
+pub fn seal(block: &mut [u8; 512])
     ensures { block.new ≡ sealed (take 508 block.old) }
 {
     let sum = block_check(&block[..508]);
