@@ -10,6 +10,9 @@ use lib.ListN.{length, take, drop, get_or, length-append, length-take, length-dr
 use lib.Seq.{drop-cons, drop-drop, take_at, drop_at, length-take-le}
 use Rattle.std.specs.List.{filter, range_with_len}
 use Rattle.std.specs.Simd.{first_chunks}
+use Rattle.std.specs.Prelude.{Option, Some, MatchOption}
+use Rattle.std.specs.Array.{IsFirstChunk}
+use Rattle.std.specs.Borrow.{MutBor}
 use Rattle.protocol.specs.Bytes.{if, part, num, bytes_of, zeros, pad_to, spliced}
 use Rattle.protocol.specs.Blocks.{house_check, sealed}
 use Rattle.protocol.specs.Records.{Rec, free_rec, rec_body, encode_rec, decode_rec}
@@ -19,21 +22,16 @@ use Rattle.protocol.specs.Held.{Sized, Fits, Fine, Holds, In, said_at}
 use Rattle.protocol.proofs.Laws.{length_pad, pad_full, length_bytes, length_body, length_rec, length_head}
 use Rattle.protocol.proofs.Places.{slots_count}
 use Rattle.protocol.proofs.Sound.{free_fits}
-use Rattle.block.proofs.Lay.{laid_first, laid_next, lent, front}
+use Rattle.block.proofs.Lay.{laid_first, laid_next, front}
 use Rattle.protocol.proofs.Held.{slot_of, block_of, fits_of, laid_rec, laid_head}
+use Rattle.ticket.specs.Kinds.{number, kind_of}
+use Rattle.ticket.specs.declared.Kind.TheVariants.{Free}
 use Rattle.table.specs.declared.Fields.{Fields}
+use Rattle.table.specs.declared.record.Record.{Record}
 use Rattle.table.specs.Parts.{Block, fields_of, rec_of, numbers_of, texts_of, turned_bytes}
 use Rattle.table.proofs.Free.{free_bytes}
 
 -- Reading
-
-pub read_clock : (b : List ℕ) {r : ℕ} → r ≡ num 8 8 b → r ≡ (decode_table b).clock
-unfolding decode_table
-read_clock b e = e
-
-pub read_next : (b : List ℕ) {r : ℕ} → r ≡ num 16 4 b → r ≡ (decode_table b).next
-unfolding decode_table
-read_next b e = e
 
 -- one of the chunks that a text begins with
 chunk_at : (n m k : ℕ) (b d : List ℕ) → k < m → get_or (first_chunks n m b) k d ≡ part (n * k) n b
@@ -67,10 +65,6 @@ block_lent t d k i c =
       since = ap (λ (r : Rec). r.since) s;
     })
 
--- a number that was read, by what the block says
-pub read : {r v w : ℕ} → r ≡ v → v ≡ w → r ≡ w
-read e f = e ∙ f
-
 -- the text of a fine table's record
 module _ (t : List ℕ) (k : ℕ) {b : List ℕ} (at : Block k t b) where
   text_short : {n : ℕ} → Fine t → n ≡ num 40 2 b → n ≤ 200
@@ -84,13 +78,9 @@ module _ (t : List ℕ) (k : ℕ) {b : List ℕ} (at : Block k t b) where
   pub text_ends : {n : ℕ} → Fine t → n ≡ num 40 2 b → 44 + n ≤ 512
   text_ends f e = omega (arith, text_short f e)
 
-  pub read_text : {n : ℕ} → n ≡ num 40 2 b → part 44 (44 + n - 44) b ≡ (said_at k t).text
-  read_text {n} e =
-      let h : 44 + n - 44 ≡ num 40 2 b = omega arith in
-      rw h at.text
-
 -- the numbers of a block, or a free record's, all 0, where there is no such slot
-pub all_zero : (f : Fields) → f.kind ≡ 0 → f.mark ≡ 0 → f.parent ≡ 0 → f.session ≡ 0 → f.depth ≡ 0 → f.serial ≡ 0 → f.expiry ≡ 0 → f.since ≡ 0 → f ≡ fields_of free_rec
+pub all_zero : (f : Fields) → f.kind ≡ Free → f.mark ≡ 0 → f.parent ≡ 0 → f.session ≡ 0 → f.depth ≡ 0 → f.serial ≡ 0 → f.expiry ≡ 0 → f.since ≡ 0 → f ≡ fields_of free_rec
+unfolding kind_of
 all_zero f a b c d e g h i =
     let z : record { kind = f.kind; mark = f.mark; parent = f.parent; session = f.session; depth = f.depth; serial = f.serial; expiry = f.expiry; since = f.since } ≡ fields_of free_rec = rw (a, b, c, d, e, g, h, i) in
     z
@@ -142,7 +132,7 @@ slots_counted b kind h = behind kind (decode_table b).slots 0 (length b / 512 - 
 
 -- Filling a block
 
-pub numbers_filled : (f : Fields) (s : List ℕ) {l1 l2 l3 l4 l5 l6 l7 l8 l9 : List ℕ} → length s ≡ 512
+pub numbers_filled : (f : Fields) (s : List ℕ) {k : ℕ} {l1 l2 l3 l4 l5 l6 l7 l8 l9 : List ℕ} → length s ≡ 512
     → l9 ≡ spliced l8 16 (bytes_of 8 f.expiry)
     → l8 ≡ spliced l7 12 (zeros 4)
     → l7 ≡ spliced l6 8 (bytes_of 4 f.serial)
@@ -151,11 +141,12 @@ pub numbers_filled : (f : Fields) (s : List ℕ) {l1 l2 l3 l4 l5 l6 l7 l8 l9 : L
     → l4 ≡ spliced l3 4 (bytes_of 2 f.session)
     → l3 ≡ spliced l2 2 (bytes_of 2 f.parent)
     → l2 ≡ spliced l1 1 (f.mark ∷ [])
-    → l1 ≡ spliced s 0 (f.kind ∷ [])
+    → l1 ≡ spliced s 0 (k ∷ [])
+    → k ≡ number f.kind
     → l9 ≡ spliced s 0 (numbers_of f)
 unfolding numbers_of bytes_of
-numbers_filled f s g e9 e8 e7 e6 e5 e4 e3 e2 e1 =
-    let p1 = laid_first s 512 0 (f.kind ∷ []) 1 g refl e1 in
+numbers_filled f s g e9 e8 e7 e6 e5 e4 e3 e2 e1 e =
+    let p1 = laid_first s 512 0 (number f.kind ∷ []) 1 g refl (rw e at e1) in
     let p2 = laid_next p1 (f.mark ∷ []) 1 refl (lit≤ tt) e2 in
     let p3 = laid_next p2 (bytes_of 2 f.parent) 2 refl (lit≤ tt) e3 in
     let p4 = laid_next p3 (bytes_of 2 f.session) 2 refl (lit≤ tt) e4 in
@@ -166,23 +157,24 @@ numbers_filled f s g e9 e8 e7 e6 e5 e4 e3 e2 e1 =
     let p9 = laid_next p8 (bytes_of 8 f.expiry) 8 refl (lit≤ tt) e9 in
     p9.eq
 
-pub texts_filled : (x t i : List ℕ) (v : ℕ) (s : List ℕ) {l1 l2 l3 l4 l5 l6 l7 : List ℕ} → length s ≡ 512 → length x ≤ 16 → length t ≤ 200 → length i ≤ 16
+pub texts_filled : (r : Record) (s : List ℕ) {l1 l2 l3 l4 l5 l6 l7 : List ℕ} → length s ≡ 512
     → l7 ≡ spliced l6 280 (zeros 228)
-    → l6 ≡ spliced l5 272 (bytes_of 8 v)
-    → l5 ≡ spliced l4 256 (pad_to 16 i)
-    → l4 ≡ spliced l3 44 (pad_to 212 t)
+    → l6 ≡ spliced l5 272 (bytes_of 8 r.fields.since)
+    → l5 ≡ spliced l4 256 (pad_to 16 r.iou.now)
+    → l4 ≡ spliced l3 44 (pad_to 212 r.text.now)
     → l3 ≡ spliced l2 42 (zeros 2)
-    → l2 ≡ spliced l1 40 (bytes_of 2 (length t))
-    → l1 ≡ spliced s 24 (pad_to 16 x)
-    → l7 ≡ spliced s 24 (texts_of x t i v)
+    → l2 ≡ spliced l1 40 (bytes_of 2 (length r.text.now))
+    → l1 ≡ spliced s 24 (pad_to 16 r.secret.now)
+    → l7 ≡ spliced s 24 (texts_of r)
 unfolding texts_of
-texts_filled x t i v s g hx ht hi e7 e6 e5 e4 e3 e2 e1 =
-    let p1 = laid_first s 512 24 (pad_to 16 x) 16 g (length_pad 16 x hx) e1 in
-    let p2 = laid_next p1 (bytes_of 2 (length t)) 2 (length_bytes 2 (length t)) (lit≤ tt) e2 in
+texts_filled r s g e7 e6 e5 e4 e3 e2 e1 =
+    let t : length r.text.now ≤ 200 = r.text_fits in
+    let p1 = laid_first s 512 24 (pad_to 16 r.secret.now) 16 g (length_pad 16 r.secret.now r.secret_fits) e1 in
+    let p2 = laid_next p1 (bytes_of 2 (length r.text.now)) 2 (length_bytes 2 (length r.text.now)) (lit≤ tt) e2 in
     let p3 = laid_next p2 (zeros 2) 2 refl (lit≤ tt) e3 in
-    let p4 = laid_next p3 (pad_to 212 t) 212 (length_pad 212 t (omega arith)) (lit≤ tt) e4 in
-    let p5 = laid_next p4 (pad_to 16 i) 16 (length_pad 16 i hi) (lit≤ tt) e5 in
-    let p6 = laid_next p5 (bytes_of 8 v) 8 (length_bytes 8 v) (lit≤ tt) e6 in
+    let p4 = laid_next p3 (pad_to 212 r.text.now) 212 (length_pad 212 r.text.now (omega arith)) (lit≤ tt) e4 in
+    let p5 = laid_next p4 (pad_to 16 r.iou.now) 16 (length_pad 16 r.iou.now r.iou_fits) (lit≤ tt) e5 in
+    let p6 = laid_next p5 (bytes_of 8 r.fields.since) 8 (length_bytes 8 r.fields.since) (lit≤ tt) e6 in
     let p7 = laid_next p6 (zeros 228) 228 refl (lit≤ tt) e7 in
     p7.eq ∙ ap (λ (l : List ℕ). spliced s 24 l) (simp append_assoc)
 
@@ -190,22 +182,23 @@ numbers_long : (f : Fields) → length (numbers_of f) ≡ 24
 unfolding numbers_of bytes_of
 numbers_long f = refl
 
-texts_long : (x t i : List ℕ) (v : ℕ) → length x ≤ 16 → length t ≤ 200 → length i ≤ 16 → length (texts_of x t i v) ≡ 484
+texts_long : (r : Record) → length (texts_of r) ≡ 484
 unfolding texts_of bytes_of
-texts_long x t i v hx ht hi = simp (length-append, length-replicate) (omega arith)
+texts_long r = simp (length-append, length-replicate) (omega (arith, r.secret_fits, r.text_fits, r.iou_fits))
 
 -- a record's block, numbers and texts sealed
-body_of : (f : Fields) (x t i : List ℕ) → length x ≤ 16 → length i ≤ 16 → numbers_of f ++ texts_of x t i f.since ≡ rec_body (rec_of f x t i)
+body_of : (r : Record) → numbers_of r.fields ++ texts_of r ≡ rec_body (rec_of r)
 unfolding rec_body numbers_of texts_of bytes_of
-body_of f x t i hx hi = rw (pad_full 16 (pad_to 16 x) (length_pad 16 x hx), pad_full 16 (pad_to 16 i) (length_pad 16 i hi))
+body_of r =
+    rw (pad_full 16 (pad_to 16 r.secret.now) (length_pad 16 r.secret.now r.secret_fits), pad_full 16 (pad_to 16 r.iou.now) (length_pad 16 r.iou.now r.iou_fits))
 
-pub record_filled : (f : Fields) (x t i s : List ℕ) {l1 l2 l3 : List ℕ} → length s ≡ 512 → length x ≤ 16 → length t ≤ 200 → length i ≤ 16
-    → l3 ≡ sealed (take 508 l2) → l2 ≡ spliced l1 24 (texts_of x t i f.since) → l1 ≡ spliced s 0 (numbers_of f) → l3 ≡ encode_rec (rec_of f x t i)
+pub record_filled : (r : Record) (s : List ℕ) {l1 l2 l3 : List ℕ} → length s ≡ 512
+    → l3 ≡ sealed (take 508 l2) → l2 ≡ spliced l1 24 (texts_of r) → l1 ≡ spliced s 0 (numbers_of r.fields) → l3 ≡ encode_rec (rec_of r)
 unfolding encode_rec
-record_filled f x t i s g hx ht hi e3 e2 e1 =
-    let p1 = laid_first s 512 0 (numbers_of f) 24 g (numbers_long f) e1 in
-    let p2 = laid_next p1 (texts_of x t i f.since) 484 (texts_long x t i f.since hx ht hi) (lit≤ tt) e2 in
-    e3 ∙ ap sealed (front p2 ∙ body_of f x t i hx hi)
+record_filled r s g e3 e2 e1 =
+    let p1 = laid_first s 512 0 (numbers_of r.fields) 24 g (numbers_long r.fields) e1 in
+    let p2 = laid_next p1 (texts_of r) 484 (texts_long r) (lit≤ tt) e2 in
+    e3 ∙ ap sealed (front p2 ∙ body_of r)
 
 pub free_filled : (s : List ℕ) {l1 l2 : List ℕ} → length s ≡ 512 → l2 ≡ spliced l1 508 (bytes_of 4 33292289) → l1 ≡ spliced s 0 (zeros 508) → l2 ≡ encode_rec free_rec
 unfolding bytes_of spliced
@@ -304,20 +297,24 @@ module _ (r : Rec) (z : Sized r) (kind e : ℕ) where
 
 -- Lending: a block of the table was lent and came back as another
 
-pub lent_rec : (t y : List ℕ) (k : ℕ) (r : Rec) → Fine t → In k t → Fits r → y ≡ encode_rec r
-    → Holds (take (512 * k) t ++ (y ++ drop (512 * k + 512 - 512 * k) (drop (512 * k) t))) (put k r (decode_table t))
-lent_rec t y k r f i s e =
-    laid_rec t _ k r f i s (lent t y (encode_rec r) (512 * k) 512 (512 * k + 512) refl (length_rec r s.sized) e)
+block_back : (t front rest y b : List ℕ) (at : ℕ) → length b ≡ 512 → front ≡ take at t → rest ≡ drop at t → y ≡ b → front ++ (y ++ drop 512 rest) ≡ spliced t at b
+unfolding spliced
+block_back t front rest y b at h f g q = rw (f, g, q, h, drop-drop 512 at t)
 
-pub lent_free : (t y : List ℕ) (k : ℕ) → Fine t → In k t → y ≡ encode_rec free_rec
-    → Holds (take (512 * k) t ++ (y ++ drop (512 * k + 512 - 512 * k) (drop (512 * k) t))) (remove k (decode_table t))
-lent_free t y k f i e = lent_rec t y k free_rec f i free_fits e
+pub lent_rec : (t front rest y : List ℕ) (k : ℕ) (r : Rec) → Fine t → In k t → Fits r → front ≡ take (512 * k) t → rest ≡ drop (512 * k) t → y ≡ encode_rec r
+    → Holds (front ++ (y ++ drop 512 rest)) (put k r (decode_table t))
+lent_rec t front rest y k r f i s p q e = laid_rec t _ k r f i s (block_back t front rest y (encode_rec r) (512 * k) (length_rec r s.sized) p q e)
+
+pub lent_free : (t front rest y : List ℕ) (k : ℕ) → Fine t → In k t → front ≡ take (512 * k) t → rest ≡ drop (512 * k) t → y ≡ encode_rec free_rec
+    → Holds (front ++ (y ++ drop 512 rest)) (remove k (decode_table t))
+lent_free t front rest y k f i p q e = lent_rec t front rest y k free_rec f i free_fits p q e
 
 -- numbers of their types fit a record
-pub fields_fit : (f : Fields) (x t i : List ℕ) → f.parent < 65536 → f.session < 65536 → f.serial < 4294967296 → f.expiry < 18446744073709551616 → f.since < 18446744073709551616
-    → length x ≤ 16 → length t ≤ 200 → length i ≤ 16 → Fits (rec_of f x t i)
-fields_fit f x t i p s n e w hx ht hi =
-    record { parent = p; session = s; serial = n; expiry = e; since = w; sized = record { secret = length_pad 16 x hx; text = ht; iou = length_pad 16 i hi } }
+pub fields_fit : (r : Record) → r.fields.parent < 65536 → r.fields.session < 65536 → r.fields.serial < 4294967296 → r.fields.expiry < 18446744073709551616
+    → r.fields.since < 18446744073709551616 → Fits (rec_of r)
+fields_fit r p s n e w =
+    let z : Sized (rec_of r) = record { secret = length_pad 16 r.secret.now r.secret_fits; text = r.text_fits; iou = length_pad 16 r.iou.now r.iou_fits } in
+    record { parent = p; session = s; serial = n; expiry = e; since = w; sized = z }
 
 pub lent_head : (t y : List ℕ) (n c x : ℕ) → Fine t → c ≤ last_time → x < 4294967296 → n ≡ length t / 512 - 1 → y ≡ sealed (head_body n c x)
     → Holds (y ++ drop 512 t) (table_of c x (decode_table t).slots)
@@ -329,16 +326,21 @@ lent_head t y n c x f h g m e =
     let d : y ≡ sealed (head_body (length (decode_table t).slots) c x) = rw k at e in
     laid_head t (y ++ drop 512 t) c x f h g (q ∙ ap (spliced t 0) d)
 
-pub lent_turn : (t y : List ℕ) (kind k s e : ℕ) → Fine t → In k t → s ≡ (said_at k t).session → e ≡ (rec_at s (decode_table t).slots).expiry
-    → y ≡ sealed (take 508 (turned_bytes kind e (part (512 * k) (512 * k + 512 - 512 * k) t)))
-    → Holds (take (512 * k) t ++ (y ++ drop (512 * k + 512 - 512 * k) (drop (512 * k) t))) (put k (turned kind (said_at k t) (decode_table t).slots) (decode_table t))
+-- the block that was lent
+pub first_lent : (rest : List ℕ) (P : Type 0) {o : Option (MutBor (List ℕ))} {b : MutBor (List ℕ)} → MatchOption o P (λ c. IsFirstChunk rest c.now 512) → o ≡ Some b
+    → b.now ≡ take 512 rest
+first_lent rest P m e = let c : IsFirstChunk rest _ 512 = rw e at m in c.same
+
+pub lent_turn : (t front rest b y : List ℕ) (kind k v s e : ℕ) → Fine t → In k t → v ≡ (said_at k t).session → s ≡ v → e ≡ (rec_at s (decode_table t).slots).expiry
+    → front ≡ take (512 * k) t → rest ≡ drop (512 * k) t → b ≡ take 512 rest → y ≡ sealed (take 508 (turned_bytes kind e b))
+    → Holds (front ++ (y ++ drop 512 rest)) (put k (turned kind (said_at k t) (decode_table t).slots) (decode_table t))
 unfolding turned
-lent_turn t y kind k s e f i hs he hy =
+lent_turn t front rest b y kind k v s e f i hv hs he p q hb hy =
     let r : Rec = said_at k t in
     let z = fits_of t k f in
-    let w : 512 * k + 512 - 512 * k ≡ 512 = omega arith in
-    let q : e ≡ (rec_at r.session (decode_table t).slots).expiry = he ∙ rw hs in
-    let g : turned kind r (decode_table t).slots ≡ lasting r z.sized kind e (zeros 16) = rw q in
+    let w : b ≡ encode_rec r = hb ∙ (ap (take 512) q ∙ block_of t k f i) in
+    let j : e ≡ (rec_at r.session (decode_table t).slots).expiry = he ∙ rw (hs, hv) in
+    let g : turned kind r (decode_table t).slots ≡ lasting r z.sized kind e (zeros 16) = rw j in
     let fits : Fits (lasting r z.sized kind e (zeros 16)) =
     record { parent = z.parent; session = z.session; serial = z.serial; expiry = omega (arith, he, (fits_of t s f).expiry); since = z.since; sized = record { secret = z.sized.secret; text = z.sized.text; iou = refl } } in
-    rw g (lent_rec t y k (lasting r z.sized kind e (zeros 16)) f i fits (hy ∙ rw (w, block_of t k f i) (turn_filled r z.sized kind e)))
+    rw g (lent_rec t front rest y k (lasting r z.sized kind e (zeros 16)) f i fits p q (hy ∙ rw w (turn_filled r z.sized kind e)))

@@ -5,7 +5,9 @@ use Rattle.protocol.specs.Records.{Rec, decode_rec, at_kind, at_mark, at_parent,
 use Rattle.protocol.specs.Table.{Table, rec_at}
 use Rattle.protocol.specs.Steps.{put, turned}
 use Rattle.protocol.specs.Held.{said_at}
+use Rattle.ticket.specs.Kinds.{number, kind_of}
 use Rattle.table.specs.declared.Fields.{Fields}
+use Rattle.table.specs.declared.record.Record.{Record}
 
 -- b is the block of slot k of a table, and says its record: all of it, and field by field
 pub record Block (k : ℕ) (table b : List ℕ) : Type 0 where
@@ -28,7 +30,7 @@ pub record Block (k : ℕ) (table b : List ℕ) : Type 0 where
 abbrev pub fields_of : Rec → Fields
 fields_of r =
     record {
-      kind = r.kind;
+      kind = kind_of r.kind;
       mark = r.mark;
       parent = r.parent;
       session = r.session;
@@ -38,27 +40,27 @@ fields_of r =
       since = r.since;
     }
 
--- a record of its numbers and bytes; short secrets are filled up with zeros
-abbrev pub rec_of : Fields → List ℕ → List ℕ → List ℕ → Rec
-rec_of f secret text iou =
+-- the record of its numbers and bytes; short secrets are filled up with zeros
+abbrev pub rec_of : Record → Rec
+rec_of r =
     record {
-      kind = f.kind;
-      mark = f.mark;
-      parent = f.parent;
-      session = f.session;
-      depth = f.depth;
-      serial = f.serial;
-      expiry = f.expiry;
-      secret = pad_to 16 secret;
-      text = text;
-      iou = pad_to 16 iou;
-      since = f.since;
+      kind = number r.fields.kind;
+      mark = r.fields.mark;
+      parent = r.fields.parent;
+      session = r.fields.session;
+      depth = r.fields.depth;
+      serial = r.fields.serial;
+      expiry = r.fields.expiry;
+      secret = pad_to 16 r.secret.now;
+      text = r.text.now;
+      iou = pad_to 16 r.iou.now;
+      since = r.fields.since;
     }
 
 -- bytes 0 to 23 of its block
 unfoldable pub numbers_of : Fields → List ℕ
 numbers_of f =
-    (f.kind ∷ [])
+    (number f.kind ∷ [])
     ++ ((f.mark ∷ [])
     ++ (bytes_of 2 f.parent
     ++ (bytes_of 2 f.session
@@ -69,14 +71,14 @@ numbers_of f =
     ++ bytes_of 8 f.expiry)))))))
 
 -- and 24 to 507
-unfoldable pub texts_of : List ℕ → List ℕ → List ℕ → ℕ → List ℕ
-texts_of secret text iou since =
-    pad_to 16 secret
-    ++ (bytes_of 2 (length text)
+unfoldable pub texts_of : Record → List ℕ
+texts_of r =
+    pad_to 16 r.secret.now
+    ++ (bytes_of 2 (length r.text.now)
     ++ (zeros 2
-    ++ (pad_to 212 text
-    ++ (pad_to 16 iou
-    ++ (bytes_of 8 since
+    ++ (pad_to 212 r.text.now
+    ++ (pad_to 16 r.iou.now
+    ++ (bytes_of 8 r.fields.since
     ++ zeros 228)))))
 
 -- a block's bytes with another kind and expiry, its mark and its IOU secret cleared
