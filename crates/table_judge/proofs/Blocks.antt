@@ -2,7 +2,7 @@
 -- passes exactly where its block is the free record's. Assumes nothing.
 use borrow.Author.Tests.{eqb-true}
 use lib.Dec.{eqb}
-use mathlib.Core.Path.{◌≡◌, refl, sym, ap, ◌∙◌}
+use mathlib.Core.Path.{◌≡◌, sym, ap, ◌∙◌}
 use mathlib.Core.Bool.{Bool, true, ◌&&◌}
 use mathlib.Core.List.{List}
 use Prim.Native.Nat.{ℕ, ◌*◌}
@@ -17,10 +17,10 @@ use Rattle.protocol.proofs.Held.{slot_of}
 use Rattle.protocol.proofs.Kept.{free_right}
 use Rattle.protocol.proofs.Sound.{free_fits}
 use Rattle.block.proofs.Bytewise.{Bytes, part_bytes, sealed_test}
-use Rattle.table.specs.Parts.{Block, fields_of}
+use Rattle.table.specs.Parts.{Block}
 use Rattle.table.proofs.Free.{free_zero}
 use Rattle.table_judge.specs.Tests.{block_at, alone_at, slot_right}
-use Rattle.table_judge.proofs.Slots.{alone_free}
+use Rattle.table_judge.proofs.Slots.{alone_zero}
 
 module _ (clock next : ℕ) (b : List ℕ) (k : ℕ) (i : In k b) (y : Bytes b) where
   abbrev slots : List Rec
@@ -80,7 +80,7 @@ module _ (clock next : ℕ) (b : List ℕ) (k : ℕ) (i : In k b) (y : Bytes b) 
     free_made e =
         let q : block_at k b ≡ encode_rec free_rec = same-eq (block_at k b) (encode_rec free_rec) e in
         let f : r ≡ free_rec = said ∙ ap decode_rec q ∙ rec_back free_rec free_fits in
-        made (record { rule = rw f (free_right clock next slots); block = q ∙ ap encode_rec (sym f); lone = sym (alone_free b k {f = fields_of r} refl free) })
+        made (record { rule = rw f (free_right clock next slots); block = q ∙ ap encode_rec (sym f); lone = alone_zero b k free })
 
   pub free_slot : {bl : List ℕ} {t x : Bool} → x ≡ eqb (said_at k b).kind 0 → x ≡ true → Block k b bl → t ≡ same bl (encode_rec free_rec) → t ≡ slot_right clock next b k
   free_slot e z at f =

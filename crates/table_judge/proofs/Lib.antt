@@ -2,5 +2,5 @@
 pub mod Tail
 pub mod Slots
 pub mod Blocks
-pub mod Whole
 pub mod Worth
+pub mod Whole

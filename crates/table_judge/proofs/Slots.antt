@@ -1,22 +1,24 @@
 -- Slots of the table's bytes, one after the other, as the code meets them. Assumes nothing.
 use mathlib.Core.Path.{◌≡◌, refl, sym, ap, ◌∙◌}
-use mathlib.Core.Bool.{Bool, true, false, ◌&&◌, not, ◌||◌, and-true}
+use mathlib.Core.Bool.{Bool, true, false, ◌&&◌, not}
 use mathlib.Core.List.{List, [], ◌∷◌}
 use Prim.Native.Nat.{ℕ, zero, suc, ◌+◌, ◌-◌, ◌*◌, ◌<◌, ◌≤◌}
 use native.Mathlib.Numerals.{add-one}
 use native.Mathlib.Omega.{arith}
-use borrow.Author.Tests.{eq-eqb, ne_eqb}
-use lib.Dec.{eqb, leb, ltb}
+use borrow.Author.Tests.{eq-eqb}
+use lib.Dec.{eqb}
 use lib.ListN.{length, drop_of_length-le}
 use lib.Seq.{drop-cons}
 use Rattle.std.specs.List.{list_any, list_all, range_with_len}
 use Rattle.protocol.specs.Bytes.{part}
 use Rattle.protocol.specs.Records.{Rec, free_rec}
 use Rattle.protocol.specs.Table.{decode_table, rec_at, serial_taken, session_right, parent_right, grant_right}
-use Rattle.protocol.proofs.Laws.{and-false}
 use Rattle.protocol.proofs.Places.{slots_count}
 use Rattle.protocol.specs.Held.{In, said_at}
 use Rattle.block.specs.Checks.{check_right_to}
+use Rattle.ticket.specs.Kinds.{number}
+use Rattle.ticket.proofs.Laws.{number_kind, other_number}
+use Rattle.ticket.specs.declared.Kind.TheVariants.{Free}
 use Rattle.table.specs.declared.Fields.{Fields}
 use Rattle.table.specs.Parts.{Block, fields_of}
 use Rattle.table_rules.specs.Tests.{record_right}
@@ -27,22 +29,14 @@ use Rattle.table_judge.specs.Tests.{from_slot, session_test, parent_test, has_se
 pub slot_in : (b : List ℕ) (n k : ℕ) → length b ≡ 512 * n → 1 ≤ k → k < n → In k b
 slot_in b n k h l g = record { low = l; high = omega arith }
 
--- the serial of a slot, and whether it is held
-module _ (r : Rec) (serial : ℕ) {s : ℕ} (e : s ≡ r.serial) where
-  pub serial_other : (s ≡ serial → ⊥) → false ≡ has_serial serial r
-  serial_other z = sym (rw (ne_eqb r.serial serial (λ x. z (e ∙ x))) (and-false (not (eqb r.kind 0))))
-
-  pub serial_own : {x : Bool} → s ≡ serial → x ≡ eqb r.kind 0 → not x ≡ has_serial serial r
-  serial_own {x} z f = rw (f, eq-eqb r.serial serial (sym e ∙ z)) (sym (and-true (not (eqb r.kind 0))))
-
 -- the records that it names
 pub session_is : (slots : List Rec) (r : Rec) → session_right slots r ≡ session_test (fields_of r) (fields_of (rec_at r.session slots))
 unfolding session_right
-session_is slots r = refl
+session_is slots r = rw (number_kind r.kind, number_kind (rec_at r.session slots).kind)
 
 pub parent_is : (slots : List Rec) (r : Rec) → parent_right slots r ≡ parent_test (fields_of r) (fields_of (rec_at r.parent slots))
 unfolding parent_right grant_right
-parent_is slots r = refl
+parent_is slots r = rw (number_kind r.kind, number_kind (rec_at r.parent slots).kind)
 
 -- the records from a slot on: the first, and those behind it
 module _ (b : List ℕ) (n : ℕ) (h : length b ≡ 512 * n) where
@@ -68,17 +62,20 @@ all_listed test k zero = refl
 all_listed test k (suc m) = rw (all_listed test (k + 1) m)
 
 -- a serial that no later record has
-pub alone_free : (b : List ℕ) (k : ℕ) {f : Fields} → f ≡ fields_of (said_at k b) → f.kind ≡ 0 → true ≡ alone_at k b
+pub alone_zero : (b : List ℕ) (k : ℕ) → (said_at k b).kind ≡ 0 → alone_at k b ≡ true
 unfolding alone_at
-alone_free b k e z =
-    let q : (said_at k b).kind ≡ 0 = sym (ap (λ (x : Fields). x.kind) e) ∙ z in
-    rw (eq-eqb (said_at k b).kind 0 q)
+alone_zero b k e = rw (eq-eqb (said_at k b).kind 0 e)
 
-pub alone_held : (b : List ℕ) (k : ℕ) {f : Fields} {t : Bool} → f ≡ fields_of (said_at k b) → (f.kind ≡ 0 → ⊥) → t ≡ serial_taken f.serial (from_slot (k + 1) b) → not t ≡ alone_at k b
-unfolding alone_at
-alone_held b k {f} e z g =
-    let q : (said_at k b).kind ≡ 0 → ⊥ = λ x. z (ap (λ (y : Fields). y.kind) e ∙ x) in
-    rw (ne_eqb (said_at k b).kind 0 q, g, e)
+module _ (b : List ℕ) (k : ℕ) {f : Fields} (e : f ≡ fields_of (said_at k b)) where
+  kind_said : number f.kind ≡ (said_at k b).kind
+  kind_said = rw e (number_kind (said_at k b).kind)
+
+  pub alone_free : f.kind ≡ Free → true ≡ alone_at k b
+  alone_free z = sym (alone_zero b k (sym kind_said ∙ ap number z))
+
+  pub alone_held : {t : Bool} → (f.kind ≡ Free → ⊥) → t ≡ serial_taken f.serial (from_slot (k + 1) b) → not t ≡ alone_at k b
+  unfolding alone_at
+  alone_held z g = let q : eqb (said_at k b).kind 0 ≡ false = rw kind_said at (other_number f.kind Free z) in rw (q, g, e)
 
 -- all that is asked of a slot
 pub slot_right_lem : (b : List ℕ) (clock next k : ℕ) {bl : List ℕ} {f s p : Fields} {o u v c a : Bool} → Block k b bl → f ≡ fields_of (said_at k b)

@@ -14,7 +14,7 @@ use Rattle.protocol.specs.Bytes.{same, part, num, bytes_of}
 use Rattle.protocol.specs.Blocks.{check_right, sealed}
 use Rattle.protocol.specs.Tickets.{a_free, a_login}
 use Rattle.protocol.specs.Records.{Rec, free_rec, encode_rec}
-use Rattle.protocol.specs.Table.{head_body, decode_table, count_kind, serial_taken, serials_differ, table_lawful, login_cap, last_time}
+use Rattle.protocol.specs.Table.{head_body, decode_table, count_kind, serial_taken, serials_differ, table_shape, table_lawful, login_cap, last_time}
 use Rattle.protocol.proofs.Laws.{both, same-eq, same_refl, rec_right, Rules, rules, rules_hold_lem, part-long, lawful_bytes, lawful_fits, lawful_clock, lawful_rules, one_test}
 use Rattle.protocol.proofs.Places.{head_bytes, slots_count, lawful_by_blocks, block_lawful}
 use Rattle.protocol.proofs.Held.{slot_of}
@@ -24,6 +24,7 @@ use Rattle.protocol.specs.Held.{In}
 use Rattle.table_rules.specs.Tests.{head_right}
 use Rattle.table_judge.specs.Tests.{block_at, alone_at, slot_right, all_from, judged}
 use Rattle.table_judge.proofs.Blocks.{Told, told, made}
+use Rattle.table_judge.proofs.Worth.{shaped}
 
 -- Slots, all and each
 
@@ -160,24 +161,23 @@ module _ (b : List ℕ) (m : ℕ) (h : length b ≡ 512 * m + 512) (few : m ≤ 
 
 -- What the code knows at its returns
 
-module _ (b : List ℕ) (n : ℕ) {good : Bool} (h : length b ≡ 512 * n) (l : 9 ≤ n) (e : good ≡ head_right (n - 1) b) where
-  count_is : n - 1 ≡ length b / 512 - 1
-  count_is = omega arith
-
+module _ (b : List ℕ) {good : Bool} (e : good ≡ head_right (length b / 512 - 1) b) where
   pub clock_low : {c : ℕ} → good ≡ true → c ≡ (decode_table b).clock → c ≤ last_time
   unfolding decode_table
   clock_low g x = rw x (leb-true (num 8 8 b) last_time (both (leb (num 8 8 b) last_time) _ (sym e ∙ g)).0)
 
-  pub table_wrong : Bytes b → n ≤ 128 → good ≡ false → false ≡ table_lawful b
-  unfolding judged
-  table_wrong y f g =
-      let p : head_right (length b / 512 - 1) b ≡ false = rw count_is at (sym e ∙ g) in
-      sym (rw p) ∙ tests_law b (n - 1) (omega arith) (omega arith) y
+  module _ (h : table_shape (length b) ≡ true) (y : Bytes b) where
+    tests_shape : judged b ≡ table_lawful b
+    tests_shape = let n = shaped (length b) h in tests_law b (length b / 512 - 1) (omega arith) (omega arith) y
 
-  pub table_right : {k s : Bool} {c x v : ℕ} → Bytes b → n ≤ 128 → good ≡ true → c ≡ (decode_table b).clock → x ≡ (decode_table b).next
-      → k ≡ check_right (part (512 * 0) 512 b) → s ≡ all_from (slot_right c x b) 1 (n - 1) → v ≡ count_kind a_login (decode_table b).slots
-      → k && s && leb v 32 ≡ table_lawful b
-  unfolding judged login_cap decode_table
-  table_right y f g c x k s v =
-      let p : head_right (length b / 512 - 1) b ≡ true = rw count_is at (sym e ∙ g) in
-      rw (k, s, v, c, x, count_is) (sym (rw p)) ∙ tests_law b (n - 1) (omega arith) (omega arith) y
+    pub table_wrong : good ≡ false → false ≡ table_lawful b
+    unfolding judged
+    table_wrong g = let p : head_right (length b / 512 - 1) b ≡ false = sym e ∙ g in sym (rw p) ∙ tests_shape
+
+    pub table_right : {k s : Bool} {c x v : ℕ} → good ≡ true → c ≡ (decode_table b).clock → x ≡ (decode_table b).next
+        → k ≡ check_right (part (512 * 0) 512 b) → s ≡ all_from (slot_right c x b) 1 (length b / 512 - 1) → v ≡ count_kind a_login (decode_table b).slots
+        → k && s && leb v 32 ≡ table_lawful b
+    unfolding judged login_cap decode_table
+    table_right g c x k s v =
+        let p : head_right (length b / 512 - 1) b ≡ true = sym e ∙ g in
+        rw (k, s, v, c, x) (sym (rw p)) ∙ tests_shape

@@ -27,15 +27,6 @@ shaped s h =
     let x = eqb-true (s % 512) 0 p.0 in
     record { whole = omega arith; low = leb-true 9 (s / 512) q.0; high = leb-true (s / 512) 128 q.1 }
 
-pub shape_whole : (s : ℕ) → table_shape s ≡ true → s ≡ 512 * (s / 512)
-shape_whole s h = (shaped s h).whole
-
-pub shape_low : (s : ℕ) → table_shape s ≡ true → 9 ≤ s / 512
-shape_low s h = (shaped s h).low
-
-pub shape_high : (s : ℕ) → table_shape s ≡ true → s / 512 ≤ 128
-shape_high s h = (shaped s h).high
-
 pub lawful_fine : (b : List ℕ) → table_shape (length b) ≡ true → table_lawful b ≡ true → Fine b
 lawful_fine b h e =
     let s = lawful_sound b h e in

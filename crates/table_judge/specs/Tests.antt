@@ -6,6 +6,7 @@ use Rattle.protocol.specs.Tickets.{a_free, a_login, a_session, a_service, a_prox
 use Rattle.protocol.specs.Records.{Rec, free_rec, rec_body, own_right}
 use Rattle.protocol.specs.Table.{at_clock, at_next, decode_table, count_kind, serial_taken, session_right, parent_right, login_cap}
 use Rattle.protocol.specs.Held.{said_at}
+use Rattle.ticket.specs.Kinds.{number}
 use Rattle.table.specs.declared.Fields.{Fields}
 use Rattle.table_rules.specs.Tests.{head_right}
 
@@ -20,20 +21,20 @@ from_slot k b = drop k (free_rec ∷ (decode_table b).slots)
 -- session_right, by the numbers of a record and of the session that it names
 abbrev pub session_test : Fields → Fields → Bool
 session_test f s =
-    if (ltb f.kind a_service)
+    if (ltb (number f.kind) a_service)
     (eqb f.session 0)
-    (eqb s.kind a_session && (if (eqb f.kind a_grant || eqb f.kind a_visit) (eqb f.expiry s.expiry) (leb f.expiry s.expiry)))
+    (eqb (number s.kind) a_session && (if (eqb (number f.kind) a_grant || eqb (number f.kind) a_visit) (eqb f.expiry s.expiry) (leb f.expiry s.expiry)))
 
 -- parent_right, by the numbers of a record and of the parent that it names
 abbrev pub parent_test : Fields → Fields → Bool
 parent_test f p =
-    if (ltb f.kind a_service)
+    if (ltb (number f.kind) a_service)
     (eqb f.parent 0)
-    (if (eqb f.kind a_service || eqb f.kind a_visit)
+    (if (eqb (number f.kind) a_service || eqb (number f.kind) a_visit)
     (eqb f.parent f.session)
-    (if (eqb f.kind a_proxy)
-    (eqb p.kind a_grant && eqb p.session f.session)
-    (if (eqb f.depth 1) (eqb f.parent 0) (eqb p.kind a_grant && eqb p.session f.session && eqb f.depth (p.depth + 1)))))
+    (if (eqb (number f.kind) a_proxy)
+    (eqb (number p.kind) a_grant && eqb p.session f.session)
+    (if (eqb f.depth 1) (eqb f.parent 0) (eqb (number p.kind) a_grant && eqb p.session f.session && eqb f.depth (p.depth + 1)))))
 
 -- a record that is not free has this serial
 abbrev pub has_serial : ℕ → Rec → Bool

@@ -1,39 +1,31 @@
 -- What the code computes of a block is what protocol says of it. Assumes nothing.
-use mathlib.Core.Path.{◌≡◌, refl, sym, ap, ◌∙◌}
-use mathlib.Core.Bool.{Bool, true, false, ◌&&◌, ◌||◌, and-true}
+use mathlib.Core.Path.{◌≡◌, refl, sym, ◌∙◌}
+use mathlib.Core.Bool.{Bool, true, false, ◌&&◌}
 use mathlib.Core.List.{List, [], ◌∷◌}
 use Prim.Native.Nat.{ℕ, ◌+◌, ◌-◌, ◌<◌, ◌≤◌}
 use native.Mathlib.Omega.{arith}
 use native.Mathlib.Decide.{dec_le}
-use borrow.Author.Tests.{le-leb, lt-leb, leb-true, eq-eqb, ne_eqb}
-use lib.Dec.{eqb, leb, ltb, lit≤, lit<}
+use borrow.Author.Tests.{le-leb, lt-leb, leb-true}
+use lib.Dec.{eqb, leb, lit≤, lit<}
 use lib.ListN.{length, take, drop, get_or, length-take, length-drop}
-use lib.Seq.{take-add, drop_at, drop-drop}
-use Rattle.protocol.specs.Utf8.{name_right}
 use Rattle.protocol.specs.Bytes.{if, ascii, same, within, all_within, zeros, pad_to, part, num, bytes_of}
-use Rattle.protocol.specs.Tickets.{a_waiting, lifetime, secret_length, mark_most, depth_least, depth_most, text_least, text_most}
+use Rattle.protocol.specs.Tickets.{a_waiting, secret_length, mark_most, depth_least, depth_most, text_least, text_most}
 use Rattle.protocol.specs.Records.{decode_rec, rec_body, fields_right, serial_right, expiry_right, since_right, own_right, text_right as rec_text_right, letters_right}
 use Rattle.protocol.specs.Table.{head_body}
 use Rattle.protocol.proofs.Laws.{both, length_bytes, length_pad, text_most_lem, part-long, and-false, one_test}
 use Rattle.protocol.proofs.Sizes.{secret_most}
 use Rattle.ticket.specs.declared.Limits.{Limits}
 use Rattle.ticket.specs.declared.Kind.{Kind}
-use Rattle.ticket.specs.declared.Kind.TheVariants.{Free, Session, Waiting}
+use Rattle.ticket.specs.declared.Kind.TheVariants.{Free, Login, Session, Service, Proxy, Waiting, Grant, Visit, Other}
+use Rattle.ticket.specs.declared.beyond.Beyond.{Beyond}
 use Rattle.ticket.specs.Kinds.{number, limits_of}
-use Rattle.ticket.proofs.Laws.{limited, number_most, other_number}
+use Rattle.ticket.proofs.Laws.{limited, number_kind}
 use Rattle.table.specs.declared.Fields.{Fields}
 use Rattle.table.specs.Parts.{fields_of}
 use Rattle.table_rules.specs.Tests.{limits_right, life_right, since_test, secrets_right, text_right, gaps_zero, record_right, head_right}
 use Rattle.block.proofs.Bytewise.{Bytes, front_test, same-zeros, field_own, field_test, two_own, one_and_zero, full_own, text_own}
 
 -- A record's bytes
-
--- what stands in a part behind its front
-drop-part : (b : List ℕ) (at n i : ℕ) → i ≤ n → at + n ≤ length b → drop i (part at n b) ≡ part (at + i) (n - i) b
-drop-part b at n i h g =
-    let e : n ≡ i + (n - i) = omega arith in
-    ap (λ (m : ℕ). drop i (part at m b)) e ∙ (ap (drop i) (take-add i (n - i) (drop at b))
-    ∙ (drop_at (part at i b) (take (n - i) (drop i (drop at b))) i (part-long at i b (omega arith)) ∙ rw (drop-drop i at b)))
 
 -- a text is as long as its length field says, or both are too long for any kind
 text_length : (b : List ℕ) (k n : ℕ) → length b ≡ 512 → within (text_least k) (text_most k) (length (part 44 n b)) ≡ within (text_least k) (text_most k) n
@@ -60,12 +52,12 @@ limits_first true true true false false tb i v life = refl
 own_limits : (c n : ℕ) (b : List ℕ) → length b ≡ 512
     → own_right c n (decode_rec b)
     ≡ limits_right (fields_of (decode_rec b)) (num 40 2 b)
-    && (all_within 0 0 (part (24 + secret_length (get_or b 0 0)) (16 - secret_length (get_or b 0 0)) b) && letters_right (get_or b 0 0) (part 44 (num 40 2 b) b) && (if (eqb (get_or b 0 0) a_waiting) true (all_within 0 0 (part 256 16 b)))
+    && (all_within 0 0 (drop (secret_length (get_or b 0 0)) (part 24 16 b)) && letters_right (get_or b 0 0) (part 44 (num 40 2 b) b) && (if (eqb (get_or b 0 0) a_waiting) true (all_within 0 0 (part 256 16 b)))
     && since_test c (fields_of (decode_rec b)) && life_right c n (fields_of (decode_rec b)))
 unfolding own_right fields_right rec_text_right serial_right expiry_right since_right decode_rec limits_right life_right
 own_limits c n b h =
     let k : ℕ = get_or b 0 0 in
-    rw (text_length b k (num 40 2 b) h, drop-part b 24 16 (secret_length k) (secret_most k) (omega arith))
+    rw (number_kind k, text_length b k (num 40 2 b) h)
     (limits_first (leb k 7) (leb (get_or b 1 0) (mark_most k)) (within (depth_least k) (depth_most k) (get_or b 6 0)) _ (within (text_least k) (text_most k) (num 40 2 b)) _ _ _ _)
 
 module _ (b : List ℕ) (h : 512 ≤ length b) (y : (i : ℕ) → get_or b i 0 < 256) where
@@ -118,79 +110,39 @@ module _ (b : List ℕ) (h : 512 ≤ length b) (y : (i : ℕ) → get_or b i 0 <
 
 -- What the code knows at its returns
 
-pub limits_low : (f : Fields) (n : ℕ) (w : Kind) {l : Limits} → f.kind ≡ number w → l ≡ limits_of (number w)
+-- a kind by name is one of eight
+number_most : (w : Kind) → ((o : Beyond) → w ≡ Other o → ⊥) → number w ≤ 7
+number_most Free z = lit≤ tt
+number_most Login z = lit≤ tt
+number_most Session z = lit≤ tt
+number_most Service z = lit≤ tt
+number_most Proxy z = lit≤ tt
+number_most Waiting z = lit≤ tt
+number_most Grant z = lit≤ tt
+number_most Visit z = lit≤ tt
+number_most (Other o) z = absurd (z o refl)
+
+pub limits_low : (f : Fields) (n : ℕ) {l : Limits} → ((o : Beyond) → f.kind ≡ Other o → ⊥) → l ≡ limits_of (number f.kind)
     → leb f.mark l.mark_most && (leb l.depth_least f.depth && leb f.depth l.depth_most) && (leb l.text_least n && leb n l.text_most) ≡ limits_right f n
 unfolding limits_right
-limits_low f n w k e =
-    let m = limited (number w) e in
-    rw (k, le-leb (number w) 7 (number_most w), m.mark, m.shallow, m.deep, m.short, m.long)
+limits_low f n z e =
+    let m = limited (number f.kind) e in
+    rw (le-leb (number f.kind) 7 (number_most f.kind z), m.mark, m.shallow, m.deep, m.short, m.long)
+
+-- a secret has at most 16 bytes
+pub secret_room : (b : List ℕ) (kind : ℕ) {n : ℕ} → length b ≡ 512 → n ≡ secret_length kind → n ≤ length (part 24 16 b)
+secret_room b kind h e = omega (arith, secret_most kind, part-long 24 16 b (omega arith))
 
 -- within the limits the text is short
 pub limits_short : (f : Fields) (n : ℕ) {x : ℕ} {good : Bool} → good ≡ limits_right f n → good ≡ true → x ≡ n → x ≤ 200
 unfolding limits_right
 limits_short f n e g z =
-    let k : ℕ = f.kind in
+    let k : ℕ = number f.kind in
     let p = both (leb k 7) (leb f.mark (mark_most k) && within (depth_least k) (depth_most k) f.depth && within (text_least k) (text_most k) n) (sym e ∙ g) in
     let q = both (leb f.mark (mark_most k) && within (depth_least k) (depth_most k) f.depth) (within (text_least k) (text_most k) n) p.1 in
     let t = both (leb (text_least k) n) (leb n (text_most k)) q.1 in
     let m : n ≤ text_most k = leb-true n (text_most k) t.1 in
     omega (arith, text_most_lem k)
-
--- either test, as a choice
-either : (c x : Bool) → c || x ≡ if c true x
-either true x = refl
-either false x = refl
-
-pub serial_right_lem : (next serial : ℕ) → leb 1 serial && (eqb next 0 || ltb serial next) ≡ serial_right next serial
-unfolding serial_right
-serial_right_lem next serial = rw (either (eqb next 0) (ltb serial next))
-
-module _ (f : Fields) (clock next : ℕ) {w : Kind} (k : f.kind ≡ number w) where
-  pub life_free : w ≡ Free → eqb f.serial 0 && eqb f.expiry 0 ≡ life_right clock next f
-  unfolding life_right
-  life_free z = rw (k, z)
-
-  pub life_held : {m : ℕ} {s : Bool} → (w ≡ Free → ⊥) → s ≡ serial_right next f.serial → m ≡ lifetime (number w) → s && leb f.expiry (clock + m) ≡ life_right clock next f
-  unfolding life_right
-  life_held z a b = rw (k, other_number w Free z, a, b)
-
-  pub since_session : w ≡ Session → leb f.since clock ≡ since_test clock f
-  since_session z = rw (k, z)
-
-  pub since_other : (w ≡ Session → ⊥) → eqb f.since 0 ≡ since_test clock f
-  since_other z = rw (k, other_number w Session z)
-
-module _ (b : List ℕ) (w : Kind) {m : ℕ} {r : Bool} (a : m ≡ secret_length (number w)) (x : r ≡ all_within 0 0 (part (24 + m) (40 - (24 + m)) b)) where
-  rest_zero : r ≡ all_within 0 0 (part (24 + secret_length (number w)) (16 - secret_length (number w)) b)
-  rest_zero =
-      let e : 40 - (24 + m) ≡ 16 - m = omega arith in
-      rw (x, e, a)
-
-  pub secrets_waiting : w ≡ Waiting → r ≡ secrets_right (number w) b
-  unfolding secrets_right
-  secrets_waiting z = rest_zero ∙ rw z (sym (and-true _))
-
-  pub secrets_other : {i : Bool} → (w ≡ Waiting → ⊥) → i ≡ all_within 0 0 (part 256 16 b) → r && i ≡ secrets_right (number w) b
-  unfolding secrets_right
-  secrets_other z y = rw (other_number w Waiting z, y, rest_zero)
-
-module _ (w : Kind) (s : List ℕ) {r : Bool} where
-  pub letters_name : w ≡ Session → r ≡ name_right s → r ≡ letters_right (number w) s
-  letters_name e q = rw (e, q)
-
-  pub letters_plain : (w ≡ Session → ⊥) → r ≡ all_within 32 126 s → r ≡ letters_right (number w) s
-  letters_plain e q = rw (other_number w Session e, q)
-
-pub text_right_lem : (b : List ℕ) (kind n : ℕ) {r z : Bool} → r ≡ letters_right kind (part 44 (44 + n - 44) b) → z ≡ all_within 0 0 (part (44 + n) (256 - (44 + n)) b) → r && z ≡ text_right kind n b
-unfolding text_right
-text_right_lem b kind n x z =
-    let e : 44 + n - 44 ≡ n = omega arith in
-    let d : 256 - (44 + n) ≡ 212 - n = omega arith in
-    rw (x, z, e, d)
-
-pub gaps_zero_lem : (b : List ℕ) {p q r s : Bool} → p ≡ all_within 0 0 (part 7 1 b) → q ≡ all_within 0 0 (part 12 4 b) → r ≡ all_within 0 0 (part 42 2 b) → s ≡ all_within 0 0 (part 280 228 b) → p && q && r && s ≡ gaps_zero b
-unfolding gaps_zero
-gaps_zero_lem b p q r s = rw (p, q, r, s)
 
 -- the tests of bytes in the code's order, and in protocol's
 in_order : (s i t rest g7 g12 g42 g280 v life : Bool) → s && i && (t && rest) && (g7 && g12 && g42 && g280) && v && life ≡ s && t && i && v && life && (g7 && (g12 && (g42 && (rest && g280))))
@@ -222,14 +174,6 @@ in_order s i t rest g7 g12 g42 g280 v life = one_test _ _ there back
         let q4 = both rest g280 q3.1 in
         rw (p1.0, p2.1, p1.1, q4.0, q1.0, q2.0, q3.0, q4.1, p3.1, p4.1)
 
--- a record of no kind is wrong
-pub record_none : (c n : ℕ) (b : List ℕ) {f : Fields} → length b ≡ 512 → f ≡ fields_of (decode_rec b) → 7 < f.kind → false ≡ record_right c n b
-unfolding limits_right
-record_none c n b {f} h e g =
-    let none : limits_right f (num 40 2 b) ≡ false = rw (lt-leb f.kind 7 g) in
-    let w : limits_right (fields_of (decode_rec b)) (num 40 2 b) ≡ false = rw e at none in
-    sym (rw (own_limits c n b h, w))
-
 -- a record outside its limits is wrong
 pub record_wrong : (c n : ℕ) (b : List ℕ) {f : Fields} {m : ℕ} {good : Bool} → length b ≡ 512 → f ≡ fields_of (decode_rec b) → m ≡ num 40 2 b → good ≡ limits_right f m → good ≡ false
     → false ≡ record_right c n b
@@ -238,19 +182,19 @@ record_wrong c n b h e l g z =
     sym (rw (own_limits c n b h, w))
 
 -- within them its bytes decide
-pub record_right_lem : (c n : ℕ) (b : List ℕ) (kind : Kind) {f : Fields} {m x : ℕ} {good s t g v l : Bool} → length b ≡ 512 → Bytes b → number kind ≡ f.kind → x ≡ m
+pub record_right_lem : (c n : ℕ) (b : List ℕ) {f : Fields} {m x : ℕ} {good s t g v l : Bool} → length b ≡ 512 → Bytes b → x ≡ m
     → f ≡ fields_of (decode_rec b) → m ≡ num 40 2 b → good ≡ limits_right f m → good ≡ true
-    → s ≡ secrets_right (number kind) b → t ≡ text_right (number kind) x b → g ≡ gaps_zero b → v ≡ since_test c f → l ≡ life_right c n f
+    → s ≡ secrets_right (number f.kind) b → t ≡ text_right (number f.kind) x b → g ≡ gaps_zero b → v ≡ since_test c f → l ≡ life_right c n f
     → s && t && g && v && l ≡ record_right c n b
 unfolding secrets_right text_right gaps_zero decode_rec
-record_right_lem c n b kind h y i j e l g z a p q u r =
+record_right_lem c n b {f} h y j e l g z a p q u r =
     let k : ℕ = get_or b 0 0 in
     let m : ℕ = num 40 2 b in
     let w : limits_right (fields_of (decode_rec b)) (num 40 2 b) ≡ true = rw (e, l) at (sym g ∙ z) in
     let short : num 40 2 b ≤ 200 = limits_short (fields_of (decode_rec b)) (num 40 2 b) (sym w) refl refl in
-    rw (a, p, q, u, r, i, j, e, l, own_limits c n b h, w, body_own b (omega arith) y.each short)
-    (in_order (all_within 0 0 (part (24 + secret_length k) (16 - secret_length k) b)) (if (eqb k a_waiting) true (all_within 0 0 (part 256 16 b))) (letters_right k (part 44 m b)) (all_within 0 0 (part (44 + m) (212 - m) b))
-    (all_within 0 0 (part 7 1 b)) (all_within 0 0 (part 12 4 b)) (all_within 0 0 (part 42 2 b)) (all_within 0 0 (part 280 228 b)) (since_test c (fields_of (decode_rec b))) (life_right c n (fields_of (decode_rec b))))
+    rw (a, p, q, u, r, j, e, l, own_limits c n b h, w, body_own b (omega arith) y.each short, number_kind k)
+    (in_order (all_within 0 0 (drop (secret_length k) (part 24 16 b))) (if (eqb k a_waiting) true (all_within 0 0 (part 256 16 b))) (letters_right k (part 44 m b)) (all_within 0 0 (part (44 + m) (212 - m) b))
+    (all_within 0 0 (part 7 1 b)) (all_within 0 0 (part 12 4 b)) (all_within 0 0 (part 42 2 b)) (all_within 0 0 (part 280 228 b)) _ (life_right c n (fields_of (decode_rec b))))
 
 -- tests one by one, or each with all that follow
 one_by_one : (a b c d e : Bool) → a && b && c && d && e ≡ a && (b && (c && (d && e)))

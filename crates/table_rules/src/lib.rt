@@ -2,33 +2,36 @@
 // test of the record that the block says, and whether the 508 bytes are that record's.
 #![tactic(auto)]
 
-ghost use Rattle.std.specs.Prelude.{◌≡◌, ◌+◌, ◌≤◌, ◌<◌, length};
+ghost use Rattle.std.specs.Prelude.{◌≡◌, ◌≤◌, ◌<◌, length};
 ghost use Rattle.protocol.specs.Records.{decode_rec, serial_right, letters_right};
-ghost use Rattle.protocol.specs.Table.{last_time};
 ghost use Rattle.ticket.specs.Kinds.{number};
 ghost use Rattle.table.specs.Parts.{fields_of};
 ghost use Rattle.table_rules.specs.Tests.{limits_right, life_right, since_test, secrets_right, text_right, gaps_zero, record_right, head_right};
 
+use protocol::{LAST_TIME, Time};
 use table::Fields;
 use ticket::Kind;
 
-// The latest time.
-const LAST_TIME: u64 = 1099511627776;
-
 // ---- a record
 
-// Mark, depth and length of text are as the kind allows.
-fn limits_right(kind: Kind, f: Fields, length: u16) -> bool
-    requires { f.kind ≡ number kind }
+// It is of some kind, and mark, depth and length of text are as that allows.
+#[tactic(auto, using(crate::proofs::Laws::limits_low), unfolding(crate::specs::Tests::limits_right))]
+fn limits_right(f: Fields, length: u16) -> bool
     ensures { result ≡ limits_right f length }
 {
-    let limits = kind.limits();
-    (f.mark <= limits.mark_most)
-        & ((limits.depth_least <= f.depth) & (f.depth <= limits.depth_most))
-        & ((limits.text_least <= length) & (length <= limits.text_most))
+    match f.kind {
+        Kind::Other(_) => false,
+        _ => {
+            let limits = f.kind.limits();
+            (f.mark <= limits.mark_most)
+                & ((limits.depth_least <= f.depth) & (f.depth <= limits.depth_most))
+                & ((limits.text_least <= length) & (length <= limits.text_most))
+        }
+    }
 }
 
 // A serial is nonzero and issued.
+#[tactic(auto, unfolding(protocol::specs::Records::serial_right))]
 fn serial_right(next: u32, serial: u32) -> bool
     ensures { result ≡ serial_right next serial }
 {
@@ -36,33 +39,34 @@ fn serial_right(next: u32, serial: u32) -> bool
 }
 
 // A free record has neither serial nor expiry, another's are right.
-fn life_right(kind: Kind, f: Fields, clock: u64, next: u32) -> bool
-    requires { (f.kind ≡ number kind) × (clock ≤ last_time) }
-    ensures { result ≡ life_right clock next f }
+#[tactic(auto, using(ticket::proofs::Laws::other_number, protocol::proofs::Sound::lifetime_most), unfolding(crate::specs::Tests::life_right))]
+fn life_right(f: Fields, clock: Time, next: u32) -> bool
+    ensures { result ≡ life_right clock.seconds next f }
 {
-    match kind {
+    match f.kind {
         Kind::Free => (f.serial == 0) & (f.expiry == 0),
-        _ => serial_right(next, f.serial) & (f.expiry <= clock + kind.lifetime()),
+        _ => serial_right(next, f.serial) & (f.expiry <= clock.seconds + f.kind.lifetime()),
     }
 }
 
 // A session was made at T at the latest; other kinds have no sign-on time.
-fn since_right(kind: Kind, f: Fields, clock: u64) -> bool
-    requires { f.kind ≡ number kind }
-    ensures { result ≡ since_test clock f }
+#[tactic(auto, using(ticket::proofs::Laws::other_number))]
+fn since_right(f: Fields, clock: Time) -> bool
+    ensures { result ≡ since_test clock.seconds f }
 {
-    match kind {
-        Kind::Session => f.since <= clock,
+    match f.kind {
+        Kind::Session => f.since <= clock.seconds,
         _ => f.since == 0,
     }
 }
 
 // The rest of a short secret is zero, and so is the IOU secret of any kind but a waiting grant.
+#[tactic(auto, using(ticket::proofs::Laws::other_number), unfolding(crate::specs::Tests::secrets_right))]
 fn secrets_right(block: &[u8; 512], kind: Kind) -> bool
     ensures { result ≡ secrets_right (number kind) block.now }
 {
-    let from = table::AT_SECRET + kind.secret_length();
-    let rest = block::all_within(&block[from..table::AT_LENGTH], 0, 0);
+    let secret = &block[table::AT_SECRET..table::AT_LENGTH];
+    let rest = block::all_within(&secret[kind.secret_length()..], 0, 0);
     match kind {
         Kind::Waiting => rest,
         _ => rest & block::all_within(&block[table::AT_IOU..table::AT_SINCE], 0, 0),
@@ -70,6 +74,7 @@ fn secrets_right(block: &[u8; 512], kind: Kind) -> bool
 }
 
 // A session's text is a name; other texts have bytes 32 to 126.
+#[tactic(auto, using(ticket::proofs::Laws::other_number))]
 fn letters_right(kind: Kind, text: &[u8]) -> bool
     ensures { result ≡ letters_right (number kind) text.now }
 {
@@ -80,6 +85,7 @@ fn letters_right(kind: Kind, text: &[u8]) -> bool
 }
 
 // The text's bytes are as its kind has them, those behind it zero.
+#[tactic(auto, unfolding(crate::specs::Tests::text_right))]
 fn text_right(block: &[u8; 512], kind: Kind, n: usize) -> bool
     requires { n ≤ 200 }
     ensures { result ≡ text_right (number kind) n block.now }
@@ -90,6 +96,7 @@ fn text_right(block: &[u8; 512], kind: Kind, n: usize) -> bool
 }
 
 // The bytes that have no name are zero.
+#[tactic(auto, unfolding(crate::specs::Tests::gaps_zero))]
 fn gaps_zero(block: &[u8; 512]) -> bool
     ensures { result ≡ gaps_zero block.now }
 {
@@ -100,22 +107,19 @@ fn gaps_zero(block: &[u8; 512]) -> bool
 }
 
 // Does the record that a block says, whose numbers are given, keep its own rules, and are the first 508 bytes those of that record?
-pub fn record_right(block: &[u8; 512], f: Fields, clock: u64, next: u32) -> bool
-    requires { (f ≡ fields_of (decode_rec block.now)) × (clock ≤ last_time) }
-    ensures { result ≡ record_right clock next block.now }
+pub fn record_right(block: &[u8; 512], f: Fields, clock: Time, next: u32) -> bool
+    requires { f ≡ fields_of (decode_rec block.now) }
+    ensures { result ≡ record_right clock.seconds next block.now }
 {
-    let Ok(kind) = Kind::try_from(f.kind) else {
-        return false;
-    };
     let n = block::read::<u16>(block, table::AT_LENGTH);
-    if !limits_right(kind, f, n) {
+    if !limits_right(f, n) {
         return false;
     }
-    secrets_right(block, kind)
-        & text_right(block, kind, usize::from(n))
+    secrets_right(block, f.kind)
+        & text_right(block, f.kind, usize::from(n))
         & gaps_zero(block)
-        & since_right(kind, f, clock)
-        & life_right(kind, f, clock, next)
+        & since_right(f, clock)
+        & life_right(f, clock, next)
 }
 
 // ---- the header
@@ -127,7 +131,7 @@ pub fn head_right(table: &[u8], count: usize) -> bool
 {
     (block::read::<u64>(table, table::AT_CLOCK) <= LAST_TIME)
         & text::same(&table[0..table::AT_COUNT], b"TKTS")
-        & (block::read::<u16>(table, table::AT_COUNT) as usize == count)
+        & (usize::from(block::read::<u16>(table, table::AT_COUNT)) == count)
         & (block::read::<u16>(table, table::AT_FORM) == 1)
         & block::all_within(&table[table::END_NEXT..table::AT_CHECK], 0, 0)
 }

@@ -5,9 +5,9 @@ use Rattle.std.proofs.lemmas.Iterator.Search.{any_from_yields_List}
 use Rattle.protocol.specs.Held.{said_at}
 use Rattle.table_judge.specs.Tests.{has_serial}
 use Rattle.table_judge.proofs.Slots.{taken_behind}
-use Rattle.table_judge.proofs.serial_taken.Goals as goal
+use Rattle.table_judge.proofs.Judge.serial_taken.Goals as goal
 
 pub returns : goal.returns
 returns c =
-    any_from_yields_List (λ j. has_serial c.args.serial (said_at j c.args.table.now)) _ _ _ c.any.ensures.ran (YieldsList-from_range (c.args.k + 1) c.args.n _ refl (omega arith)) (λ x b q k. search (rules, tests))
-    ∙ taken_behind c.args.table.now c.args.n c.requires.0 c.args.k c.args.serial c.requires.1
+    any_from_yields_List (λ j. has_serial c.args.serial (said_at j c.args.self.table.now)) _ _ _ c.any.ensures.ran (YieldsList-from_range (c.args.k + 1) c.args.self.count _ refl (omega arith)) (λ x b q k. search (rules, tests))
+    ∙ taken_behind c.args.self.table.now c.args.self.count c.args.self.whole c.args.k c.args.serial c.requires
