@@ -1,75 +1,35 @@
--- Decoding a byte at a time: what the byte at a place is, and what each turn of a loop leaves to do. Assumes nothing.
-use mathlib.Core.Path.{◌≡◌, refl, sym, ap, ◌∙◌}
+-- Decoding a byte at a time: what the next one is, and two ways through bytes that go together. Assumes nothing.
+use mathlib.Core.Path.{◌≡◌, refl, ap}
 use mathlib.Core.Bool.{Bool, true, false, ◌&&◌}
 use mathlib.Core.List.{List, [], ◌∷◌}
-use Prim.Native.Nat.{ℕ, zero, suc, ◌+◌, ◌-◌, ◌*◌, ◌≤◌, ◌<◌}
+use Prim.Native.Nat.{ℕ, zero, suc, ◌+◌, ◌*◌, ◌≤◌, ◌<◌}
 use native.Mathlib.Omega.{arith}
-use lib.Dec.{eqb, ltb, leb}
-use lib.ListN.{length, drop, get_or, set, drop_of_length-le, get_or-eq_default}
-use lib.Seq.{drop-drop, get_or-drop}
-use borrow.Author.Tests.{le-leb, lt-leb, eq-eqb, ne_eqb, eqb-true, eqb-false, lt-ltb, ltb-true, ltb-false, leb-true}
-use Rattle.protocol.specs.Bytes.{if, same, within, all_within}
+use lib.Dec.{eqb, ltb}
+use lib.ListN.{length, drop, get_or}
+use borrow.Author.Tests.{eq-eqb, ne_eqb, eqb-true}
+use Rattle.protocol.specs.Bytes.{same}
 use Rattle.protocol.specs.Request.{hex_value, hex_leads, unit_of, skip_of, decoded_from, decoded}
-use Rattle.protocol.specs.Written.{Wrote}
-use Rattle.protocol.proofs.Laws.{both, drop-step}
-use Rattle.text.proofs.Splice.{Left, left_byte, left_lt, left_done}
-use Rattle.protocol.specs.Utf8.{name_right}
-use Rattle.utf8.specs.declared.Next.{Next}
-use Rattle.utf8.specs.declared.Next.TheVariants.{Start}
-use Rattle.utf8.specs.Machine.{followed, is_start, judged_from}
-use Rattle.utf8.proofs.Laws.{judged_turn, judged_done}
-use Rattle.utf8.proofs.Join.{judged_name_lem}
-use Rattle.decode.specs.Judging.{Hex, UnitAt, judged, judged_name}
-use Rattle.std.specs.Prelude.{Option, Some, None, unwrap_or}
+use Rattle.protocol.proofs.Laws.{both}
+use Rattle.decode.specs.Judging.{Hex}
+use Rattle.std.specs.Char.{digit_value}
+use Rattle.std.proofs.lemmas.Bool.Decides.{nat_tests}
+use Rattle.std.specs.Prelude.{Option, Some, None, MatchOption, IfSome}
+use Rattle.std.specs.Iterator.{AlwaysYields, Yields, YieldsThen}
+use Rattle.std.proofs.lemmas.Iterator.{YieldsList}
+use Rattle.std.specs.List.{AllZip}
 
-pub byte_none : (s : List ℕ) (i : ℕ) → length s ≤ i → 0 ≡ get_or s i 0
-byte_none s i h = sym (get_or-eq_default s 0 h)
+and_false : (t : Bool) → t && false ≡ false
+and_false true = refl
+and_false false = refl
 
-within_high : (lo hi v : ℕ) → within lo hi v ≡ true → v ≤ hi
-within_high lo hi v e = leb-true v hi (both (leb lo v) (leb v hi) e).1
+-- `hex_value`: what `to_digit` says of 16
+pub hex_digit : (b d : ℕ) → digit_value b < 16 → d ≡ digit_value b → Hex b (Some d)
+unfolding hex_value
+hex_digit b d h e = record { is = grind (arith, nat_tests); small = omega arith }
 
--- a hex digit, by the ladder of its tests: the byte lies in a range, below it or above it
-lies : (lo hi v : ℕ) → lo ≤ v → v ≤ hi → within lo hi v ≡ true
-lies lo hi v l h = rw (le-leb lo v l, le-leb v hi h)
-
-below : (lo hi v : ℕ) → v < lo → within lo hi v ≡ false
-below lo hi v h = rw (lt-leb lo v h)
-
-above : (lo hi v : ℕ) → hi < v → within lo hi v ≡ false
-above lo hi v h = rw (lt-leb v hi h) (go (leb lo v))
-  where
-    go : (t : Bool) → t && false ≡ false
-    go true = refl
-    go false = refl
-
-module _ (b v : ℕ) (w : v ≡ b) where
-  pub hex_digit_lem : 48 ≤ v → v ≤ 57 → Hex b (Some (v - 48))
-  unfolding hex_value
-  hex_digit_lem l h = record { is = rw (← w, lies 48 57 v l h); small = omega arith }
-
-  pub hex_upper : 65 ≤ v → v ≤ 70 → Hex b (Some (v - 55))
-  unfolding hex_value
-  hex_upper l h = record { is = rw (← w, above 48 57 v (omega arith), lies 65 70 v l h); small = omega arith }
-
-  pub hex_lower : 97 ≤ v → v ≤ 102 → Hex b (Some (v - 87))
-  unfolding hex_value
-  hex_lower l h = record { is = rw (← w, above 48 57 v (omega arith), above 65 70 v (omega arith), lies 97 102 v l h); small = omega arith }
-
-  none_by : within 48 57 v ≡ false → within 65 70 v ≡ false → within 97 102 v ≡ false → Hex b None
-  unfolding hex_value
-  none_by d u l = record { is = rw (← w, d, u, l); small = omega arith }
-
-  pub hex_none_first : v < 48 → Hex b None
-  hex_none_first h = none_by (below 48 57 v h) (below 65 70 v (omega arith)) (below 97 102 v (omega arith))
-
-  pub hex_none_second : 57 < v → v < 65 → Hex b None
-  hex_none_second l h = none_by (above 48 57 v l) (below 65 70 v h) (below 97 102 v (omega arith))
-
-  pub hex_none_third : 70 < v → v < 97 → Hex b None
-  hex_none_third l h = none_by (above 48 57 v (omega arith)) (above 65 70 v l) (below 97 102 v h)
-
-  pub hex_none_last : 102 < v → Hex b None
-  hex_none_last l = none_by (above 48 57 v (omega arith)) (above 65 70 v (omega arith)) (above 97 102 v l)
+pub hex_none : (b : ℕ) → (digit_value b < 16 → ⊥) → Hex b None
+unfolding hex_value
+hex_none b h = record { is = grind (arith, nat_tests); small = omega arith }
 
 -- skipping bytes that belong to a byte before
 decoded_skip : (in_body : Bool) (k : ℕ) (s : List ℕ) → decoded_from in_body k s ≡ decoded in_body (drop k s)
@@ -78,230 +38,86 @@ decoded_skip in_body zero s = refl
 decoded_skip in_body (suc k) [] = refl
 decoded_skip in_body (suc k) (b ∷ s) = decoded_skip in_body k s
 
-pub decoded_end : (in_body : Bool) (s : List ℕ) (i : ℕ) → length s ≤ i → decoded in_body (drop i s) ≡ []
+decoded_next : (in_body : Bool) (b : ℕ) (s : List ℕ) → decoded in_body (b ∷ s) ≡ unit_of in_body b s ∷ decoded in_body (drop (skip_of b s) s)
 unfolding decoded_from
-decoded_end in_body s i h = ap (decoded in_body) (drop_of_length-le s h)
+decoded_next in_body b s = ap (λ (l : List ℕ). unit_of in_body b s ∷ l) (decoded_skip in_body (skip_of b s) s)
 
--- a digit stands inside the text
-hex_inside : (s : List ℕ) (k : ℕ) → hex_value (get_or s k 0) < 16 → k < length s
+-- what is decoded is no longer than what it is decoded from
+short_from : (in_body : Bool) (k : ℕ) (s : List ℕ) → length (decoded_from in_body k s) ≤ length s
+unfolding decoded_from
+short_from in_body k [] = omega arith
+short_from in_body zero (b ∷ s) = omega (arith, short_from in_body (skip_of b s) s)
+short_from in_body (suc k) (b ∷ s) = omega (arith, short_from in_body k s)
+
+pub decoded_short : (in_body : Bool) (s : List ℕ) → length (decoded in_body s) ≤ length s
+decoded_short in_body s = short_from in_body 0 s
+
+-- `escape`
+pub hex_short : (s : List ℕ) → length s < 2 → hex_leads s ≡ false
 unfolding hex_value
-hex_inside s k h = go (ltb k (length s)) refl
-  where
-    go : (t : Bool) → ltb k (length s) ≡ t → k < length s
-    go true e = ltb-true k (length s) e
-    go false e = let z : hex_value (get_or s k 0) ≡ 16 = ap hex_value (get_or-eq_default s 0 (ltb-false k (length s) e)) in absurd (omega arith)
+hex_short [] h = refl
+hex_short (a ∷ []) h = and_false (ltb (hex_value a) 16)
+hex_short (a ∷ b ∷ s) h = absurd (omega arith)
 
-module _ (in_body : Bool) (s : List ℕ) (i : ℕ) (h : i < length s) where
-  abbrev b : ℕ
-  b = get_or s i 0
+-- `next`: s is what was left, b its first byte, and t what stands behind that
+pub decoded_end : (in_body : Bool) (s : List ℕ) → length s ≡ 0 → decoded in_body s ≡ []
+unfolding decoded_from
+decoded_end in_body [] h = refl
+decoded_end in_body (b ∷ s) h = absurd (omega arith)
 
-  abbrev t : List ℕ
-  t = drop (i + 1) s
+module _ (in_body : Bool) (s t : List ℕ) (b : ℕ) (e : s ≡ b ∷ t) where
+  pub next_escape : (v : ℕ) (r : List ℕ) → b ≡ 37 → hex_leads t ≡ true → v ≡ hex_value (get_or t 0 0) * 16 + hex_value (get_or t 1 0) → r ≡ drop 2 t → decoded in_body s ≡ v ∷ decoded in_body r
+  unfolding unit_of skip_of
+  next_escape v r p l k d = rw (e, decoded_next in_body b t, eq-eqb b 37 p, l, k, d)
 
-  decoded-step : decoded in_body (drop i s) ≡ unit_of in_body b t ∷ decoded in_body (drop (i + 1 + skip_of b t) s)
-  unfolding decoded_from
-  decoded-step =
-      ap (decoded in_body) (drop-step s i h) ∙ ap (λ (l : List ℕ). unit_of in_body b t ∷ l) (decoded_skip in_body (skip_of b t) t)
-      ∙ ap (λ (l : List ℕ). unit_of in_body b t ∷ decoded in_body l) (drop-drop (skip_of b t) (i + 1) s)
+  pub next_bad : b ≡ 37 → hex_leads t ≡ false → decoded in_body s ≡ 256 ∷ decoded in_body t
+  unfolding unit_of skip_of
+  next_bad p l = rw (e, decoded_next in_body b t, eq-eqb b 37 p, l)
 
-  by_value : (v n : ℕ) → unit_of in_body b t ≡ v → i + 1 + skip_of b t ≡ n → n ≤ length s → UnitAt in_body s i v n
-  by_value v n e k l =
-      record { step = decoded-step ∙ ap (λ (u : ℕ). u ∷ decoded in_body (drop (i + 1 + skip_of b t) s)) e ∙ ap (λ (m : ℕ). v ∷ decoded in_body (drop m s)) k; later = omega arith; inside = l }
+  pub next_space : in_body && eqb b 43 ≡ true → decoded in_body s ≡ 32 ∷ decoded in_body t
+  unfolding unit_of skip_of
+  next_space k =
+      let plus : b ≡ 43 = eqb-true b 43 (both in_body (eqb b 43) k).1 in
+      let z : eqb b 37 ≡ false = ne_eqb b 37 (λ q. omega arith) in
+      rw (e, decoded_next in_body b t, z, k)
 
-  -- `%`, and what stands behind it
-  module _ (e : b ≡ 37) (x y : ℕ) (high low : Option ℕ) (ex : x ≡ get_or s (i + 1) 0) (hx : Hex x high) (ey : y ≡ get_or s (i + 2) 0) (hy : Hex y low) where
-    first : unwrap_or high 16 ≡ hex_value (get_or t 0 0)
-    first = let k : i + 1 + 0 ≡ i + 1 = omega arith in hx.is ∙ ap hex_value (ex ∙ sym (get_or-drop (i + 1) s 0 0 ∙ ap (λ (k : ℕ). get_or s k 0) k))
+  pub next_plain : (b ≡ 37 → ⊥) → in_body && eqb b 43 ≡ false → decoded in_body s ≡ b ∷ decoded in_body t
+  unfolding unit_of skip_of
+  next_plain x k = rw (e, decoded_next in_body b t, ne_eqb b 37 x, k)
 
-    second : unwrap_or low 16 ≡ hex_value (get_or t 1 0)
-    second = let k : i + 1 + 1 ≡ i + 2 = omega arith in hy.is ∙ ap hex_value (ey ∙ sym (get_or-drop (i + 1) s 1 0 ∙ ap (λ (k : ℕ). get_or s k 0) k))
+-- `is_text`: what `eq` says of two iterators, of which one has the bytes ds left and the other ts
+abbrev pub Ends : Bool → Option ℕ → Option ℕ → Type 0
+Ends r o p = MatchOption o (MatchOption p (r ≡ true) (λ _. r ≡ false)) (λ x. (r ≡ false) × IfSome p (λ y. eqb x y ≡ false))
 
-    leads : (z : Bool) → ltb (unwrap_or high 16) 16 && ltb (unwrap_or low 16) 16 ≡ z → hex_leads t ≡ z
-    leads z k = rw (← first, ← second) k
-
-    pub escape_byte : (h l : ℕ) → high ≡ Some h → low ≡ Some l → UnitAt in_body s i (h * 16 + l) (i + 3)
-    unfolding unit_of skip_of
-    escape_byte h l eh el =
-        let vh : unwrap_or high 16 ≡ h = rw eh in
-        let vl : unwrap_or low 16 ≡ l = rw el in
-        let sh : h < 16 = rw eh at hx.small in
-        let sl : l < 16 = rw el at hy.small in
-        let k : hex_leads t ≡ true = leads true (rw (vh, vl, lt-ltb h 16 sh, lt-ltb l 16 sl)) in
-        let val : unit_of in_body b t ≡ h * 16 + l = rw (eq-eqb b 37 e, k, ← first, ← second, vh, vl) in
-        let skip : skip_of b t ≡ 2 = rw (eq-eqb b 37 e, k) in
-        let n : i + 1 + skip_of b t ≡ i + 3 = omega arith in
-        let small : hex_value (get_or s (i + 2) 0) < 16 = rw (← ey, ← hy.is, vl) sl in
-        by_value (h * 16 + l) (i + 3) val n (omega (arith, hex_inside s (i + 2) small))
-
-    escape_bad : ltb (unwrap_or high 16) 16 && ltb (unwrap_or low 16) 16 ≡ false → UnitAt in_body s i 256 (i + 1)
-    unfolding unit_of skip_of
-    escape_bad k =
-        let l : hex_leads t ≡ false = leads false k in
-        let val : unit_of in_body b t ≡ 256 = rw (eq-eqb b 37 e, l) in
-        let skip : skip_of b t ≡ 0 = rw (eq-eqb b 37 e, l) in
-        let n : i + 1 + skip_of b t ≡ i + 1 = omega arith in
-        by_value 256 (i + 1) val n (omega arith)
-
-    pub escape_no_high : high ≡ None → UnitAt in_body s i 256 (i + 1)
-    escape_no_high k = escape_bad (rw k)
-
-    pub escape_no_low : low ≡ None → UnitAt in_body s i 256 (i + 1)
-    escape_no_low k = escape_bad (rw k (go (ltb (unwrap_or high 16) 16)))
-      where
-        go : (t : Bool) → t && false ≡ false
-        go true = refl
-        go false = refl
-
-  -- any other byte
-  module _ (ne : b ≡ 37 → ⊥) where
-    one : (v : ℕ) → if (in_body && eqb b 43) 32 b ≡ v → UnitAt in_body s i v (i + 1)
-    unfolding unit_of skip_of
-    one v q =
-        let val : unit_of in_body b t ≡ if (in_body && eqb b 43) 32 b = rw (ne_eqb b 37 ne) in
-        let skip : skip_of b t ≡ 0 = rw (ne_eqb b 37 ne) in
-        let n : i + 1 + skip_of b t ≡ i + 1 = omega arith in
-        by_value v (i + 1) (val ∙ q) n (omega arith)
-
-    pub unit_space : in_body && eqb b 43 ≡ true → UnitAt in_body s i 32 (i + 1)
-    unit_space k = one 32 (rw k)
-
-    pub unit-plain : (v : ℕ) → in_body && eqb b 43 ≡ false → v ≡ b → UnitAt in_body s i v (i + 1)
-    unit-plain v k w = one v (rw (k, w))
-
--- `judge`: what was passed is right, and what is left decides
-module _ (in_body : Bool) (lo hi most : ℕ) (raw : List ℕ) (i n : ℕ)
-    (right : all_within lo hi (decoded in_body raw) ≡ all_within lo hi (decoded in_body (drop i raw)))
-    (count : length (decoded in_body raw) ≡ n + length (decoded in_body (drop i raw))) where
-  bad : all_within lo hi (decoded in_body raw) ≡ false → None ≡ judged in_body lo hi most raw
-  unfolding judged
-  bad f = rw f (go (leb (length (decoded in_body raw)) most))
-    where
-      go : (t : Bool) → None ≡ if (t && false) (Some (length (decoded in_body raw))) None
-      go true = refl
-      go false = refl
-
-  module _ (h : length raw ≤ i) where
-    all_passed : length (decoded in_body raw) ≡ n
-    all_passed = omega (arith, ap length (decoded_end in_body raw i h))
-
-    all_right : all_within lo hi (decoded in_body raw) ≡ true
-    unfolding all_within
-    all_right = right ∙ ap (all_within lo hi) (decoded_end in_body raw i h)
-
-    pub judge_good : n ≤ most → Some n ≡ judged in_body lo hi most raw
-    unfolding judged
-    judge_good k = rw (all_right, all_passed, le-leb n most k)
-
-    pub judge-long : most < n → None ≡ judged in_body lo hi most raw
-    unfolding judged
-    judge-long k = rw (all_right, all_passed, lt-leb n most k)
-
-  module _ (v next : ℕ) (u : UnitAt in_body raw i v next) where
-    unrolled : all_within lo hi (decoded in_body raw) ≡ within lo hi v && all_within lo hi (decoded in_body (drop next raw))
-    unfolding all_within
-    unrolled = right ∙ ap (all_within lo hi) u.step
-
-    pub judge_low : v < lo → None ≡ judged in_body lo hi most raw
-    judge_low h = bad (unrolled ∙ rw (lt-leb lo v h))
-
-    pub judge_high : lo ≤ v → hi < v → None ≡ judged in_body lo hi most raw
-    judge_high l h = bad (unrolled ∙ rw (le-leb lo v l, lt-leb v hi h))
-
-    pub judge_right : lo ≤ v → v ≤ hi → all_within lo hi (decoded in_body raw) ≡ all_within lo hi (decoded in_body (drop next raw))
-    judge_right l h = unrolled ∙ rw (le-leb lo v l, le-leb v hi h)
-
-    pub judge-count : length (decoded in_body raw) ≡ n + 1 + length (decoded in_body (drop next raw))
-    judge-count = omega (arith, ap length u.step)
-
--- `judge_name`: the state, and what is left, decide
-pub name_start : (in_body : Bool) (raw : List ℕ) → judged_from Start (decoded in_body raw) ≡ name_right (decoded in_body raw)
-name_start in_body raw = judged_name_lem (decoded in_body raw)
-
-module _ (in_body : Bool) (most : ℕ) (raw : List ℕ) (i n : ℕ) (state : Next)
-    (decides : judged_from state (decoded in_body (drop i raw)) ≡ name_right (decoded in_body raw))
-    (count : length (decoded in_body raw) ≡ n + length (decoded in_body (drop i raw))) where
-  module _ (h : length raw ≤ i) (z : Bool) (e : z ≡ is_start state) where
-    name_length : length (decoded in_body raw) ≡ n
-    name_length = omega (arith, ap length (decoded_end in_body raw i h))
-
-    name_state : z ≡ name_right (decoded in_body raw)
-    name_state = judged_done state (decoded in_body (drop i raw)) (name_right (decoded in_body raw)) decides z (decoded_end in_body raw i h) e
-
-    pub name_good : z && leb n most ≡ true → Some n ≡ judged_name in_body most raw
-    unfolding judged_name
-    name_good k = let p = both z (leb n most) k in rw (← name_state, name_length, p.0, p.1)
-
-    pub name_bad : z && leb n most ≡ false → None ≡ judged_name in_body most raw
-    unfolding judged_name
-    name_bad k = rw (← name_state, name_length) (go z (leb n most) k)
-      where
-        go : (a b : Bool) → a && b ≡ false → None ≡ if (b && a) (Some n) None
-        go true true q = absurd (let w : ◌≡◌ {A = ℕ} 0 1 = cc in omega arith)
-        go true false q = refl
-        go false true q = refl
-        go false false q = refl
-
-  module _ (v next : ℕ) (u : UnitAt in_body raw i v next) where
-    pub name_turn : (after : Next) → after ≡ followed state v → judged_from after (decoded in_body (drop next raw)) ≡ name_right (decoded in_body raw)
-    name_turn after e = judged_turn state (decoded in_body (drop i raw)) (name_right (decoded in_body raw)) decides v (decoded in_body (drop next raw)) after u.step e
-
-    pub name_count : length (decoded in_body raw) ≡ n + 1 + length (decoded in_body (drop next raw))
-    name_count = omega (arith, ap length u.step)
-
--- `is_text`: whether what is left of both is the same
-module _ (in_body : Bool) (raw text : List ℕ) (i at : ℕ) (left : same (decoded in_body (drop i raw)) (drop at text) ≡ same (decoded in_body raw) text) where
-  module _ (v next : ℕ) (u : UnitAt in_body raw i v next) where
-    begun : same (v ∷ decoded in_body (drop next raw)) (drop at text) ≡ same (decoded in_body raw) text
-    begun = ap (λ (l : List ℕ). same l (drop at text)) (sym u.step) ∙ left
-
-    pub text_short : length text ≤ at → false ≡ same (decoded in_body raw) text
-    unfolding same
-    text_short h = ap (same (v ∷ decoded in_body (drop next raw))) (sym (drop_of_length-le text h)) ∙ begun
-
-    module _ (b : ℕ) (w : b ≡ get_or text at 0) (h : at < length text) where
-      compared : same (decoded in_body raw) text ≡ eqb v b && same (decoded in_body (drop next raw)) (drop (at + 1) text)
-      unfolding same
-      compared = rw w (sym begun ∙ ap (same (v ∷ decoded in_body (drop next raw))) (drop-step text at h))
-
-      pub text_differs : (v ≡ b → ⊥) → false ≡ same (decoded in_body raw) text
-      text_differs x = sym (compared ∙ rw (ne_eqb v b x))
-
-      pub text_turn : v ≡ b → same (decoded in_body (drop next raw)) (drop (at + 1) text) ≡ same (decoded in_body raw) text
-      text_turn x = sym (compared ∙ rw (eq-eqb v b x))
-
-  pub text_done : length raw ≤ i → at ≤ length text → eqb at (length text) ≡ same (decoded in_body raw) text
+module _ {S T : Type 0} (steps : S → Option ℕ → S → Type 0) (others : T → Option ℕ → T → Type 0) (r : Bool) where
+  ended : (ds ts : List ℕ) (s u : S) (j z : T) (o p : Option ℕ) → AlwaysYields steps (λ x. x) s ds → AlwaysYields others (λ x. x) j ts
+      → steps s o u → others j p z → Ends r o p → r ≡ same ds ts
   unfolding same
-  text_done h k = go (eqb at (length text)) refl
-    where
-      nothing : same [] (drop at text) ≡ same (decoded in_body raw) text
-      nothing = ap (λ (l : List ℕ). same l (drop at text)) (sym (decoded_end in_body raw i h)) ∙ left
+  ended [] [] s u j z None None a b k l e = e
+  ended [] (y ∷ ts) s u j z None None a b k l e = absurd (b.0 z l)
+  ended (x ∷ ds) ts s u j z None p a b k l e = absurd (a.0 u k)
+  ended [] [] s u j z None (Some q) a b k l e = absurd (b q z l)
+  ended [] (y ∷ ts) s u j z None (Some q) a b k l e = e
+  ended [] ts s u j z (Some q) p a b k l e = absurd (a q u k)
+  ended (x ∷ ds) [] s u j z (Some q) p a b k l e = e.0
+  ended (x ∷ ds) (y ∷ ts) s u j z (Some q) None a b k l e = absurd (b.0 z l)
+  ended (x ∷ ds) (y ∷ ts) s u j z (Some q) (Some h) a b k l e = rw (← (a.1 q u k).0, ← (b.1 h z l).0, e.1) e.0
 
-      go : (t : Bool) → eqb at (length text) ≡ t → t ≡ same (decoded in_body raw) text
-      go true e =
-          let end : length text ≤ at = omega (arith, eqb-true at (length text) e) in
-          ap (same []) (sym (drop_of_length-le text end)) ∙ nothing
-      go false e =
-          let on : at < length text = omega (arith, k, eqb-false at (length text) e) in
-          ap (same []) (sym (drop-step text at on)) ∙ nothing
+  met : (xs ys ds ts : List ℕ) (s t u : S) (j i z : T) (o p : Option ℕ) → AlwaysYields steps (λ x. x) s ds → AlwaysYields others (λ x. x) j ts
+      → Yields steps s xs t → steps t o u → Yields others j ys i → others i p z → AllZip (λ x y. eqb x y ≡ true) xs ys → Ends r o p → r ≡ same ds ts
+  unfolding same
+  met [] [] ds ts s t u j i z o p a b m k n l w e = ended ds ts s u j z o p a b (rw (← m) at k) (rw (← n) at l) e
+  met [] (y ∷ ys) ds ts s t u j i z o p a b m k n l w e = elim w [ ]
+  met (x ∷ xs) [] ds ts s t u j i z o p a b m k n l w e = elim w [ ]
+  met (x ∷ xs) (y ∷ ys) [] ts s t u j i z o p a b m k n l w e = absurd (a x m.0 m.1)
+  met (x ∷ xs) (y ∷ ys) (d ∷ ds) [] s t u j i z o p a b m k n l w e = absurd (b y n.0 n.1)
+  met (x ∷ xs) (y ∷ ys) (d ∷ ds) (c ∷ ts) s t u j i z o p a b m k n l w e =
+      let f = a.1 x m.0 m.1 in
+      let g = b.1 y n.0 n.1 in
+      rw (← f.0, ← g.0, w.0) (met xs ys ds ts m.0 t u n.0 i z o p f.1 g.1 m.2 k n.2 l w.1 e)
 
--- `decode_value`: what is left to write is what is left to decode
-module _ (in_body : Bool) (raw old new : List ℕ) (to i v next : ℕ) (l : Left old 0 (decoded in_body raw) new to (decoded in_body (drop i raw)))
-    (right : all_within 0 255 (decoded in_body (drop i raw)) ≡ true) (u : UnitAt in_body raw i v next) where
-  tests : (within 0 255 v ≡ true) × (all_within 0 255 (decoded in_body (drop next raw)) ≡ true)
-  unfolding all_within
-  tests = both (within 0 255 v) (all_within 0 255 (decoded in_body (drop next raw))) (sym (ap (all_within 0 255) u.step) ∙ right)
-
-  pub write_small : v < 256
-  write_small = omega (arith, within_high 0 255 v tests.0)
-
-  pub write_room : to < length new
-  write_room = left_lt l (omega (arith, ap length u.step))
-
-  pub write_turn : Left old 0 (decoded in_body raw) (set new to v) (to + 1) (decoded in_body (drop next raw))
-  write_turn = left_byte (decoded in_body (drop next raw)) l u.step
-
-  pub write_right : all_within 0 255 (decoded in_body (drop next raw)) ≡ true
-  write_right = tests.1
-
-pub write_done : (in_body : Bool) (raw old new : List ℕ) (to i : ℕ) → Left old 0 (decoded in_body raw) new to (decoded in_body (drop i raw)) → length raw ≤ i → Wrote old 0 new to (decoded in_body raw)
-write_done in_body raw old new to i l h = left_done (rw (decoded_end in_body raw i h) at l)
+pub same_from_eq : {S T : Type 0} {steps : S → Option ℕ → S → Type 0} {others : T → Option ℕ → T → Type 0} {s : S} {j : T} {ds ts : List ℕ} (r : Bool)
+    → ((it : T) × (xs : List ℕ) × (ys : List ℕ) × (o : Option ℕ) × (p : Option ℕ) × (u : S) × (z : T) × (it ≡ j) × YieldsThen steps s xs o u × YieldsThen others it ys p z × AllZip (λ x y. eqb x y ≡ true) xs ys × Ends r o p)
+    → YieldsList steps (λ x. x) s ds → YieldsList others (λ x. x) j ts → r ≡ same ds ts
+same_from_eq {steps = steps} {others = others} {s = s} {ds = ds} {ts = ts} r d a b =
+    met steps others r d.1 d.2 ds ts s d.8.0 d.5 d.0 d.9.0 d.6 d.3 d.4 a.runs (rw (d.7) b.runs) d.8.1 d.8.2 d.9.1 d.9.2 d.10 d.11

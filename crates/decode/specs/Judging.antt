@@ -1,19 +1,19 @@
--- A raw value read a byte at a time, and judged as a whole.
-use Rattle.std.specs.Prelude.{◌≡◌, Bool, ◌&&◌, List, ◌∷◌, ℕ, ◌≤◌, ◌<◌, leb, length, drop, Option, Some, None, unwrap_or}
+-- What an escape is, and a raw value judged as a whole.
+use Rattle.std.specs.Prelude.{◌≡◌, Bool, ◌&&◌, List, true, false, ℕ, ◌+◌, ◌*◌, ◌<◌, leb, length, get_or, drop, Option, MatchOption, Some, None, unwrap_or}
+use Rattle.std.specs.Borrow.{Bor}
 use Rattle.protocol.specs.Utf8.{name_right}
 use Rattle.protocol.specs.Bytes.{if, all_within}
-use Rattle.protocol.specs.Request.{hex_value, decoded}
+use Rattle.protocol.specs.Request.{hex_value, hex_leads, decoded}
 
 -- r is the value of the hex digit b, and none for any other byte, of which the meaning says 16
 pub record Hex (b : ℕ) (r : Option ℕ) : Type 0 where
   pub is : unwrap_or r 16 ≡ hex_value b
   pub small : unwrap_or r 0 < 16
 
--- the byte that stands at a place of a raw value, and the place after it
-pub record UnitAt (in_body : Bool) (s : List ℕ) (i value next : ℕ) : Type 0 where
-  pub step : decoded in_body (drop i s) ≡ value ∷ decoded in_body (drop next s)
-  pub later : i < next
-  pub inside : next ≤ length s
+-- two hex digits lead a text: the byte that they are, and what follows them
+abbrev pub Escape : List ℕ → Option (ℕ × Bor (List ℕ)) → Type 0
+Escape s r =
+    MatchOption r (hex_leads s ≡ false) (λ e. (hex_leads s ≡ true) × (e.0 ≡ hex_value (get_or s 0 0) * 16 + hex_value (get_or s 1 0)) × (e.1.now ≡ drop 2 s))
 
 -- the decoded length, where every byte is from lo to hi and there are at most so many
 unfoldable pub judged : Bool → ℕ → ℕ → ℕ → List ℕ → Option ℕ

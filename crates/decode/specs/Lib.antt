@@ -1,2 +1,3 @@
 -- What the contracts of decoding cite.
 pub mod Judging
+pub mod Units

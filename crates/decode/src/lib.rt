@@ -2,169 +2,128 @@
 // written; then it is compared with a text where it stands, or written at the front of a lent buffer.
 #![tactic(auto)]
 
-ghost use Rattle.std.specs.Prelude.{◌≡◌, true, ◌<◌, length, get_or};
+ghost use Rattle.std.specs.Prelude.{◌≡◌, true};
 ghost use Rattle.protocol.specs.Bytes.{same, all_within};
 ghost use Rattle.protocol.specs.Request.{decoded};
 ghost use Rattle.protocol.specs.Written.{Room, Wrote};
-ghost use Rattle.decode.specs.Judging.{Hex, UnitAt, judged, judged_name};
+ghost use Rattle.decode.specs.Judging.{Hex, Escape, judged, judged_name};
 
 use utf8::Next;
 
-// The byte that stands at a place of a raw value, or 256 for a `%` without two hex digits, as the meaning counts it (`unit_of`,
-// which may not change); and the next place.
-#[derive(Clone, Copy)]
-struct Unit {
-    value: usize,
-    next: usize,
-}
-
-// The byte at a place, and 0 past the end.
-fn byte_at(s: &[u8], i: usize) -> u8
-    ensures { result ≡ get_or s.now i 0 }
-{
-    if i < s.len() {
-        return s[i];
-    }
-    0
-}
-
 // The value of a hex digit.
-fn hex_value(b: u8) -> Option<usize>
+#[tactic(auto, using(crate::proofs::Laws::hex_digit, crate::proofs::Laws::hex_none))]
+fn hex_value(b: u8) -> Option<u32>
     ensures { Hex b result }
 {
-    let v = usize::from(b);
-    match v {
-        48..=57 => Some(v - 48),
-        65..=70 => Some(v - 55),
-        97..=102 => Some(v - 87),
-        _ => None,
-    }
+    char::from(b).to_digit(16)
 }
 
-// What a `%` stands for.
-fn escape_at(s: &[u8], i: usize, in_body: bool) -> Unit
-    requires i_in_bounds { i < length s.now }
-    requires i_value { get_or s.now i 0 ≡ 37 }
-    ensures { UnitAt in_body s.now i result.value result.next }
+// What two hex digits behind a `%` are: the byte, and what follows them.
+#[tactic(auto, using(crate::proofs::Laws::hex_short))]
+fn escape(behind: &[u8]) -> Option<(usize, &[u8])>
+    ensures { Escape behind.now result }
 {
-    let high = hex_value(byte_at(s, i + 1));
-    let low = hex_value(byte_at(s, i + 2));
-    let bad = Unit {
-        value: 256,
-        next: i + 1,
+    let [high, low, rest @ ..] = behind else {
+        return None;
     };
-    let Some(high) = high else {
-        return bad;
-    };
-    let Some(low) = low else {
-        return bad;
-    };
-    Unit {
-        value: high * 16 + low,
-        next: i + 3,
+    let high = hex_value(*high)?;
+    let low = hex_value(*low)?;
+    Some(((high * 16 + low) as usize, rest))
+}
+
+// What a raw value spells, byte by byte. A `%` without two hex digits is 256, as the meaning counts it (`unit_of`, which may not
+// change), and no byte.
+#[derive(Drop)]
+struct Units<'a> {
+    rest: &'a [u8],
+    in_body: bool,
+}
+
+impl<'a> Iterator for Units<'a> {
+    ghost use Rattle.std.specs.Iterator.{YieldsFirst, item_count};
+    ghost use Rattle.decode.specs.Units.{left};
+
+    type Item = usize;
+
+    ghost next_gives = { YieldsFirst left };
+
+    ghost remaining = { item_count left };
+
+    #[tactic(auto, using(crate::proofs::Laws::decoded_end, crate::proofs::Laws::next_escape, crate::proofs::Laws::next_bad, crate::proofs::Laws::next_space, crate::proofs::Laws::next_plain))]
+    fn next(&mut self) -> Option<usize> {
+        let (&byte, behind) = self.rest.split_first()?;
+        self.rest = behind;
+        if byte == b'%' {
+            let Some((value, rest)) = escape(behind) else {
+                return Some(256);
+            };
+            self.rest = rest;
+            return Some(value);
+        }
+        if self.in_body & (byte == b'+') {
+            return Some(32);
+        }
+        Some(usize::from(byte))
     }
 }
 
-fn unit_at(s: &[u8], i: usize, in_body: bool) -> Unit
-    requires { i < length s.now }
-    ensures { UnitAt in_body s.now i result.value result.next }
-{
-    let b = s[i];
-    if b == b'%' {
-        return escape_at(s, i, in_body);
-    }
-    if in_body & (b == b'+') {
-        return Unit {
-            value: 32,
-            next: i + 1,
-        };
-    }
-    Unit {
-        value: usize::from(b),
-        next: i + 1,
+impl<'a> Units<'a> {
+    ghost use Rattle.decode.specs.Units.{left};
+
+    fn of(raw: &'a [u8], in_body: bool) -> Units<'a>
+        ensures { left result ≡ decoded in_body raw.now }
+    {
+        Units { rest: raw, in_body }
     }
 }
-
-// The loops below go by an index that moves by one or by three, so each moves it by hand.
 
 // The length of a value, decoded, where it has only bytes from lo to hi and at most so many. Nothing is written.
+#[tactic(auto, using(crate::proofs::Laws::decoded_short), unfolding(crate::specs::Judging::judged, protocol::specs::Bytes::all_within))]
 pub fn judge(raw: &[u8], in_body: bool, lo: usize, hi: usize, most: usize) -> Option<usize>
     ensures { result ≡ judged in_body lo hi most raw.now }
 {
-    let mut i = 0;
     let mut n: usize = 0;
-    while i < raw.len() {
-        let u = unit_at(raw, i, in_body);
-        let v = u.value;
-        if v < lo {
+    for v in Units::of(raw, in_body) {
+        if !(lo..=hi).contains(&v) {
             return None;
         }
-        if hi < v {
-            return None;
-        }
-        i = u.next;
         n += 1;
     }
-    if n <= most {
-        return Some(n);
-    }
-    None
+    (n <= most).then_some(n)
 }
 
 // The length of a value, decoded, where it is a name of at most so many bytes. Nothing is written.
+#[tactic(auto, using(crate::proofs::Laws::decoded_short, utf8::proofs::Join::judged_name_lem), unfolding(crate::specs::Judging::judged_name, utf8::specs::Machine::judged_from))]
 pub fn judge_name(raw: &[u8], in_body: bool, most: usize) -> Option<usize>
     ensures { result ≡ judged_name in_body most raw.now }
 {
-    let mut i = 0;
     let mut n: usize = 0;
     let mut state = Next::Start;
-    while i < raw.len() {
-        let u = unit_at(raw, i, in_body);
-        state = utf8::follow(state, u.value);
-        i = u.next;
+    for v in Units::of(raw, in_body) {
+        state = utf8::follow(state, v);
         n += 1;
     }
-    if utf8::is_start(state) & (n <= most) {
-        return Some(n);
-    }
-    None
+    (utf8::is_start(state) & (n <= most)).then_some(n)
 }
 
 // Whether a value, decoded, is this text. Nothing is written.
 pub fn is_text(raw: &[u8], in_body: bool, text: &[u8]) -> bool
     ensures { result ≡ same (decoded in_body raw.now) text.now }
 {
-    let mut i = 0;
-    let mut at = 0;
-    while i < raw.len() {
-        let u = unit_at(raw, i, in_body);
-        if text.len() <= at {
-            return false;
-        }
-        let b = usize::from(text[at]);
-        if u.value != b {
-            return false;
-        }
-        i = u.next;
-        at += 1;
-    }
-    at == text.len()
+    Units::of(raw, in_body).eq(text.iter().map(|b| usize::from(*b)))
 }
 
 // Writes a good value, and answers its length.
+#[tactic(auto, using(text::proofs::Splice::left_start, text::proofs::Splice::left_lt, text::proofs::Splice::left_byte, text::proofs::Splice::left_done), unfolding(protocol::specs::Bytes::all_within))]
 pub fn decode_value(raw: &[u8], in_body: bool, out: &mut [u8]) -> usize
     requires room { Room out.old 0 (decoded in_body raw.now) }
     requires raw_value { all_within 0 255 (decoded in_body raw.now) ≡ true }
     ensures { Wrote out.old 0 out.new result (decoded in_body raw.now) }
 {
-    let mut i = 0;
     let mut to = 0;
-    while i < raw.len() {
-        let u = unit_at(raw, i, in_body);
-        let v = u.value;
+    for v in Units::of(raw, in_body) {
         out[to] = v as u8;
         to += 1;
-        i = u.next;
     }
     to
 }

@@ -1,23 +1,11 @@
 -- Invariant: what is left to write is what is left to decode, and its bytes are bytes. Assumes nothing.
-use borrow.Author.Rules.{rules}
-use Rattle.text.proofs.Splice.{left_start}
-use Rattle.decode.proofs.Laws.{write_small, write_room, write_turn, write_right, write_done}
+use Rattle.std.proofs.Common.{arith}
+use Rattle.std.proofs.lemmas.Grind.{common_steps}
+use Rattle.protocol.specs.Bytes.{all_within}
+use Rattle.text.proofs.Splice.{left_byte}
+use Rattle.decode.specs.Units.{left}
 use Rattle.decode.proofs.decode_value.Goals as goal
 
-pub loop-i-init : goal.loop-i-init
-loop-i-init c = search (rules, left_start)
-
-pub overflow_cast-out : goal.overflow_cast-out
-overflow_cast-out c = search (rules, write_small)
-
-pub bounds-out-to : goal.bounds-out-to
-bounds-out-to c = search (rules, write_room)
-
-pub overflow_add-to : goal.overflow_add-to
-overflow_add-to c = search (rules, write_room)
-
-pub loop-i-preserved : goal.loop-i-preserved
-loop-i-preserved c = search (rules, write_turn, write_right)
-
-pub returns : goal.returns
-returns c = search (rules, write_done)
+pub loop-v-preserved : goal.loop-v-preserved
+unfolding all_within
+loop-v-preserved c = (left_byte (left c.next.new.self) c.loop-v.invariant.0 c.in-Some.ensures.steps, grind (arith, common_steps))

@@ -1,16 +1,14 @@
--- Invariant: whether what is left of both is the same says whether they are. Assumes nothing.
-use borrow.Author.Rules.{rules}
-use Rattle.decode.proofs.Laws.{text_short, text_differs, text_turn, text_done}
+-- What the two iterators have left, byte by byte. Assumes nothing.
+use Rattle.std.proofs.Common.{rules}
+use Rattle.std.proofs.lemmas.Iterator.{YieldsList-from_map, YieldsList-from_slice}
+use Rattle.std.proofs.lemmas.Iterator.Consumers.{YieldsList-from_first}
+use Rattle.std.proofs.lemmas.List.{map-id}
+use Rattle.decode.specs.Units.{left}
+use Rattle.decode.proofs.Laws.{same_from_eq}
 use Rattle.decode.proofs.is_text.Goals as goal
 
-pub returns-then-text-at : goal.returns-then-text-at
-returns-then-text-at c = search (rules, text_short)
-
-pub returns-then-u-b : goal.returns-then-u-b
-returns-then-u-b c = search (rules, text_differs)
-
-pub loop-i-preserved : goal.loop-i-preserved
-loop-i-preserved c = search (rules, text_turn)
-
 pub returns : goal.returns
-returns c = search (rules, text_done)
+returns c =
+    rw (map-id c.args.text.now) at
+    (same_from_eq c.eq.result c.eq.ensures.ran (YieldsList-from_first (λ x. x) left _ c.of.ensures)
+    (YieldsList-from_map _ (λ x. x) (YieldsList-from_slice c.args.text.now (cc)) (cc) (λ x r q k. search rules)))
