@@ -2,14 +2,13 @@
 // judged before either buffer is written.
 #![tactic(auto)]
 
-ghost use Rattle.std.specs.Prelude.{◌≡◌, ◌≤◌, length};
-ghost use Rattle.protocol.specs.Calls.{form_read, form_given, form_of};
+ghost use Rattle.std.specs.Prelude.{◌≡◌};
+ghost use Rattle.protocol.specs.Calls.{form_read, form_of};
 ghost use Rattle.protocol.specs.Refusals.{refusal_number};
-ghost use Rattle.request.specs.Value.{text_of};
 ghost use Rattle.form.specs.Refused.{refused_form};
 
 use protocol::{Form, Refusal};
-use request::Value;
+use request::{PASSWORD, SHORT};
 
 // The longest body.
 const BODY: usize = 1024;
@@ -24,33 +23,14 @@ fn refused(refusal: Refusal) -> Form
     }
 }
 
-// The inner work, once the body is read.
-fn read_credentials(
-    user: Value<'_>,
-    word: Value<'_>,
-    username: &mut [u8],
-    password: &mut [u8],
-) -> Form
-    requires username_fits { length (text_of user) ≤ length username.old }
-    requires password_fits { length (text_of word) ≤ length password.old }
-    ensures { form_read result username.new password.new ≡ form_given (text_of user.entry) (text_of word.entry) username.old password.old }
-{
-    let username_length = user.read(username);
-    let password_length = word.read(password);
-    Form {
-        refusal: 0,
-        username_length,
-        password_length,
-    }
-}
-
+#[tactic(auto, using(protocol::proofs::Searches::empty), unfolding(protocol::specs::Calls::form_of, protocol::specs::Calls::form_refusal))]
 pub fn read_form(body: &[u8], username: &mut [u8], password: &mut [u8]) -> Form
     ensures { form_read result username.new password.new ≡ form_of body.now username.old password.old }
 {
-    if username.len() < request::SHORT {
+    if username.len() < SHORT {
         return refused(Refusal::Sizes);
     }
-    if password.len() < request::PASSWORD {
+    if password.len() < PASSWORD {
         return refused(Refusal::Sizes);
     }
     if BODY < body.len() {
@@ -59,8 +39,14 @@ pub fn read_form(body: &[u8], username: &mut [u8], password: &mut [u8]) -> Form
     let Some(posted) = request::login_body(body) else {
         return refused(Refusal::Malformed);
     };
-    if posted.username.is_absent() | posted.password.is_absent() {
+    if posted.username.spelling.is_absent() | posted.password.spelling.is_absent() {
         return refused(Refusal::Incomplete);
     }
-    read_credentials(posted.username, posted.password, username, password)
+    let username_length = posted.username.read(username);
+    let password_length = posted.password.read(password);
+    Form {
+        refusal: 0,
+        username_length,
+        password_length,
+    }
 }

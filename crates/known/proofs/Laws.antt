@@ -14,7 +14,7 @@ use Rattle.protocol.specs.Bytes.{if, is_empty, same}
 use Rattle.protocol.specs.Register.{Entry, decode_register, registered, callback_of}
 use Rattle.protocol.specs.Panels.{service_in}
 use Rattle.protocol.specs.Steps.{link_to, unknown_service}
-use Rattle.request.specs.Value.{text_of, Short}
+use Rattle.request.specs.Value.{spelled}
 use Rattle.request.specs.declared.value.Value.{Value}
 use Rattle.register.specs.Blockwise.{place_of, callback_in, if_below}
 use Rattle.known.specs.Standing.{standing}
@@ -85,9 +85,9 @@ module _ (s b : List ℕ) where
 -- For callers
 
 -- what was found is no longer than what may be given
-pub known-short : (most : ℕ) (v : List ℕ) (value : Value) (es : List Entry) → v ≡ link_to (text_of value) es → Short most value → length v ≤ most
+pub known-short : {most : ℕ} (v : List ℕ) (value : Value most) (es : List Entry) → v ≡ link_to (spelled value) es → length v ≤ most
 unfolding link_to
-known-short most v value es e h = rw e (go (text_of value) (registered (text_of value) es) (omega (arith, value.measured, h.fits)))
+known-short {most} v value es e = rw e (go (spelled value) (registered (spelled value) es) (omega (arith, value.spelling.measured, value.short)))
   where
     go : (l : List ℕ) (r : Bool) → length l ≤ most → length (if r l []) ≤ most
     go l true k = k

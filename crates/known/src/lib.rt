@@ -8,10 +8,10 @@ ghost use Rattle.protocol.specs.Steps.{link_to};
 ghost use Rattle.request.specs.Value.{text_of};
 ghost use Rattle.known.specs.Standing.{standing};
 
-use request::Value;
+use request::Spelling;
 
 // The first block that has the service, if any.
-fn standing(register: &[u8], service: Value<'_>) -> Option<usize>
+fn standing(register: &[u8], service: Spelling<'_>) -> Option<usize>
     ensures { result ≡ standing (text_of service.entry) (decode_register register.now) }
 {
     let m = register.len() / 512;
@@ -19,21 +19,23 @@ fn standing(register: &[u8], service: Value<'_>) -> Option<usize>
 }
 
 // The service where it is registered, else nothing.
-pub fn service_of<'a, 'b>(register: &'a [u8], service: Value<'b>) -> &'a [u8]
+#[tactic(auto, using(crate::proofs::Laws::place_inside))]
+pub fn service_of<'a, 'b>(register: &'a [u8], service: Spelling<'b>) -> &'a [u8]
     ensures { result.now ≡ link_to (text_of service.entry) (decode_register register.now) }
 {
     standing(register, service).map_or(b"", |k| register::service_at(register, k))
 }
 
 // Whether a service that is given, and found so, is unknown.
-pub fn is_unknown(service: Value<'_>, found: &[u8]) -> bool
+pub fn is_unknown(service: Spelling<'_>, found: &[u8]) -> bool
     ensures { result ≡ (ltb 0 service.entry.length && eqb (length found.now) 0) }
 {
     !service.is_absent() & found.is_empty()
 }
 
 // The callback of a registered service, else nothing.
-pub fn callback_of<'a, 'b>(register: &'a [u8], service: Value<'b>) -> &'a [u8]
+#[tactic(auto, using(crate::proofs::Laws::place_inside))]
+pub fn callback_of<'a, 'b>(register: &'a [u8], service: Spelling<'b>) -> &'a [u8]
     ensures { result.now ≡ callback_of (text_of service.entry) (decode_register register.now) }
 {
     standing(register, service).map_or(b"", |k| register::callback_at(register, k))

@@ -5,7 +5,7 @@ use mathlib.Core.List.{List, []}
 use Prim.Native.Nat.{ℕ, suc, ◌+◌, ◌-◌, ◌^◌, ◌≤◌, ◌<◌}
 use native.Mathlib.Numerals.{add-one}
 use native.Mathlib.Omega.{arith}
-use borrow.Author.Tests.{eqb-true, eq-eqb, ne_eqb}
+use borrow.Author.Tests.{eqb-true, ne_eqb}
 use lib.Dec.{eqb}
 use lib.ListN.{length, take, drop}
 use Rattle.std.specs.Borrow.{Bor}
@@ -19,6 +19,7 @@ use Rattle.query.specs.Piece.{piece_at, piece_after}
 use Rattle.query.specs.Place.{Inside, noted_by, Noted, Walked}
 use Rattle.query.specs.declared.Piece.{Piece}
 use Rattle.query.specs.declared.Place.{Place}
+use Rattle.query.specs.declared.Places.{Places}
 use Rattle.query.proofs.Pieces.{Found, told_end, told_piece, drop_end}
 
 -- a path is told apart by a ladder of comparisons
@@ -38,20 +39,6 @@ query_some t n f = tail_part t (n + 1) ∙ sym (past-drop 63 t ∙ ap (λ (k : �
 pub query_none : (t : List ℕ) (n : ℕ) → FirstAt 63 t n → length t ≤ n → take 0 t ≡ query_part t
 query_none t n f h = sym (past-drop 63 t ∙ drop_end t (suc (length (up_to 63 t))) (omega (arith, f.is)))
 
--- `noted`
-module _ (name wanted : List ℕ) (raw : Bor (List ℕ)) (p : Place) (here : Bool) (e : here ≡ same name wanted) where
-  pub noted_first : here ≡ true → p.count ≡ 0 → record { count = p.count + 1; raw = raw } ≡ noted_by (same name wanted) raw p
-  unfolding noted_by
-  noted_first h z = rw (← e, h, eq-eqb p.count 0 z)
-
-  pub noted_again : here ≡ true → (p.count ≡ 0 → ⊥) → record { count = p.count + 1; raw = p.raw } ≡ noted_by (same name wanted) raw p
-  unfolding noted_by
-  noted_again h z = rw (← e, h, ne_eqb p.count 0 z)
-
-  pub noted_not : here ≡ false → p ≡ noted_by (same name wanted) raw p
-  unfolding noted_by
-  noted_not h = rw (← e, h)
-
 -- a name noted in the pieces up to a place: what was noted and the pieces that are left say what the whole query says
 pub record Noting (q name : List ℕ) (at : ℕ) (p : Place) : Type 0 where
   pub count : occurrences name q ≡ p.count + count_named name (pieces (drop at q))
@@ -59,9 +46,19 @@ pub record Noting (q name : List ℕ) (at : ℕ) (p : Place) : Type 0 where
   pub none : eqb p.count 0 ≡ true → p.raw.now ≡ []
   pub most : p.count ≤ at
 
-pub noting_start : (q name : List ℕ) (p : Place) → p.count ≡ 0 → p.raw.now ≡ [] → Noting q name 0 p
+noting_start : (q name : List ℕ) (p : Place) → p.count ≡ 0 → p.raw.now ≡ [] → Noting q name 0 p
 unfolding occurrences raw_value
 noting_start q name p z e = record { count = omega (arith, z); raw = rw z; none = λ i. e; most = omega arith }
+
+-- and four names
+pub record Walking (q a b c d : List ℕ) (at : ℕ) (w : Places) : Type 0 where
+  pub first : Noting q a at w.a
+  pub second : Noting q b at w.b
+  pub third : Noting q c at w.c
+  pub fourth : Noting q d at w.d
+
+pub walking_start : (q a b c d : List ℕ) (p : Place) → p.count ≡ 0 → p.raw.now ≡ [] → Walking q a b c d 0 (record { a = p; b = p; c = p; d = p })
+walking_start q a b c d p z e = record { first = noting_start q a p z e; second = noting_start q b p z e; third = noting_start q c p z e; fourth = noting_start q d p z e }
 
 module _ (q : List ℕ) (p r : Piece) (e : r ≡ piece_after q p) where
   -- no piece is left: what was noted is what the query says
@@ -76,9 +73,8 @@ module _ (q : List ℕ) (p r : Piece) (e : r ≡ piece_after q p) where
         go true f g = n.none f ∙ sym g
         go false f g = sym g
 
-    pub walked : (a b c d : List ℕ) (wa wb wc wd : Place) → Noting q a p.end wa → Noting q b p.end wb → Noting q c p.end wc → Noting q d p.end wd
-        → Walked q a b c d (record { a = wa; b = wb; c = wc; d = wd })
-    walked a b c d wa wb wc wd ha hb hc hd = record { first = done a wa ha; second = done b wb hb; third = done c wc hc; fourth = done d wd hd }
+    pub walked : (a b c d : List ℕ) (w : Places) → Walking q a b c d p.end w → Walked q a b c d w
+    walked a b c d w h = record { first = done a w.a h.first; second = done b w.b h.second; third = done c w.c h.third; fourth = done d w.d h.fourth }
 
   -- a piece was found
   module _ (k : r.start ≡ r.end → ⊥) where

@@ -45,7 +45,8 @@ pub struct Places<'a> {
     pub d: Place<'a>,
 }
 
-// Which path a text is. (A match on byte strings: tried, and the proof didn't close, since it is tested byte by byte.)
+// Which path a text is. By `text::same`, since `==` takes no array beside a slice. (A match on byte strings: tried, and the proof
+// didn't close, since it is tested byte by byte.)
 #[tactic(auto, using(crate::proofs::Laws::rung_yes, crate::proofs::Laws::rung_no), unfolding(protocol::specs::Request::path_named))]
 pub fn path_named(path: &[u8]) -> Path
     ensures { result ≡ path_named path.now }
@@ -72,6 +73,7 @@ pub fn path_named(path: &[u8]) -> Path
 }
 
 // The path ends before the first `?`.
+#[tactic(auto, using(crate::proofs::Laws::path_cut))]
 pub fn path_of(target: &[u8]) -> Path
     ensures { result ≡ path_named (path_part target.now) }
 {
@@ -81,6 +83,7 @@ pub fn path_of(target: &[u8]) -> Path
 
 // The query starts after it: a part of the target itself, empty where there is none.
 // An empty one for none is the meaning's `query_part`, which may not change.
+#[tactic(auto, using(crate::proofs::Laws::query_some, crate::proofs::Laws::query_none))]
 pub fn query_of<'a>(target: &'a [u8]) -> &'a [u8]
     ensures { result.now ≡ query_part target.now }
 {
@@ -92,6 +95,7 @@ pub fn query_of<'a>(target: &'a [u8]) -> &'a [u8]
 }
 
 // The first place from `at` on that holds no `&`: before it there are only empty pieces.
+#[tactic(auto, using(crate::proofs::Pieces::skip_none))]
 fn skip_empty(query: &[u8], at: usize) -> usize
     ensures { result ≡ at + leading (drop at query.now) }
 {
@@ -103,6 +107,7 @@ fn skip_empty(query: &[u8], at: usize) -> usize
 }
 
 // The piece after a piece.
+#[tactic(auto, using(crate::proofs::Pieces::step_piece, crate::proofs::Pieces::step_bare, crate::proofs::Pieces::step_end))]
 pub fn next_piece(query: &[u8], place: Piece) -> Piece
     ensures { result ≡ piece_after query.now place }
 {
@@ -153,11 +158,12 @@ pub fn piece_after(query: &[u8], place: Piece) -> Piece
 }
 
 // A piece of some name noted for one that is wanted: where it is that, it is one more, and the first one's value is kept.
+#[tactic(auto, using(text::proofs::Laws::same_pointwise), unfolding(crate::specs::Place::noted_by))]
 fn noted<'a>(place: Place<'a>, name: &[u8], wanted: &[u8], raw: &'a [u8]) -> Place<'a>
     requires { place.count + 1 < 2 ^ 64 }
     ensures { result ≡ noted_by (same name.now wanted.now) raw.entry place.entry }
 {
-    if text::same(name, wanted) {
+    if name == wanted {
         let count = place.count + 1;
         if place.count == 0 {
             return Place { count, raw };
@@ -179,10 +185,12 @@ pub fn walk<'a>(q: &'a [u8], a: &[u8], b: &[u8], c: &[u8], d: &[u8]) -> Places<'
         count: 0,
         raw: &q[..0],
     };
-    let mut at_a = none;
-    let mut at_b = none;
-    let mut at_c = none;
-    let mut at_d = none;
+    let mut at = Places {
+        a: none,
+        b: none,
+        c: none,
+        d: none,
+    };
     let mut piece = Piece {
         start: 0,
         mid: 0,
@@ -191,24 +199,17 @@ pub fn walk<'a>(q: &'a [u8], a: &[u8], b: &[u8], c: &[u8], d: &[u8]) -> Places<'
     };
     loop {
         piece = piece_after(q, piece);
-        let start = piece.start;
-        let mid = piece.mid;
-        let from = piece.value;
-        let to = piece.end;
-        if start == to {
-            return Places {
-                a: at_a,
-                b: at_b,
-                c: at_c,
-                d: at_d,
-            };
+        if piece.start == piece.end {
+            return at;
         }
-        let name = &q[start..mid];
-        let raw = raw_at(q, from, to);
-        at_a = noted(at_a, name, a, raw);
-        at_b = noted(at_b, name, b, raw);
-        at_c = noted(at_c, name, c, raw);
-        at_d = noted(at_d, name, d, raw);
+        let name = &q[piece.start..piece.mid];
+        let raw = raw_at(q, piece.value, piece.end);
+        at = Places {
+            a: noted(at.a, name, a, raw),
+            b: noted(at.b, name, b, raw),
+            c: noted(at.c, name, c, raw),
+            d: noted(at.d, name, d, raw),
+        };
     }
 }
 

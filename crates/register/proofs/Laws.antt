@@ -1,32 +1,27 @@
 -- A register read block by block: the block that `find` gives, and what the answer of each function says. Assumes nothing.
 use mathlib.Core.Path.{◌≡◌, refl, sym, ap, ◌∙◌}
-use mathlib.Core.Bool.{Bool, true, false, ◌&&◌, not, cond}
+use mathlib.Core.Bool.{Bool, true, false, ◌&&◌, cond}
 use mathlib.Core.List.{List, [], ◌∷◌}
 use Prim.Native.Nat.{ℕ, zero, suc, ◌+◌, ◌-◌, ◌*◌, ◌/◌, ◌≤◌, ◌<◌}
 use native.Mathlib.Nat.{zero-add}
 use native.Mathlib.Omega.{arith}
 use borrow.Author.Tests.{eq-eqb, eqb-true, eqb-false, lt-ltb, le-ltb, ltb-true, ltb-false}
-use lib.Dec.{eqb, leb, ltb}
+use lib.Dec.{eqb, ltb}
 use lib.Pointwise.{pointwise}
 use lib.ListN.{length, take, drop, get_or}
-use lib.Seq.{drop-drop, take_all, length-take-le}
+use lib.Seq.{drop-drop, take_all}
 use Rattle.std.specs.Prelude.{Option, Some, None, is_some, is_none}
 use Rattle.std.specs.Option.{option_map}
 use Rattle.std.specs.List.{starts_with, find, range_with_len}
 use Rattle.std.specs.Simd.{first_chunks}
-use Rattle.protocol.specs.Bytes.{if, ascii, same, within, all_within, holds, part, blocks}
+use Rattle.protocol.specs.Bytes.{if, ascii, same, all_within, part, blocks}
 use Rattle.protocol.specs.Blocks.{check_right}
-use Rattle.protocol.specs.Register.{entry_right, decode_entry, decode_register, address_right, register_shape, register_lawful, registered, callback_of}
-use Rattle.protocol.specs.Panels.{entry, panel_right, service_in, at_fault, fault_from, fault, fault_of}
+use Rattle.protocol.specs.Register.{decode_entry, decode_register, register_shape, register_lawful, registered, callback_of}
+use Rattle.protocol.specs.Panels.{service_in, at_fault, fault_from, fault, fault_of}
 use Rattle.protocol.specs.declared.Fault.{Fault}
 use Rattle.protocol.proofs.Laws.{one_test, same-eq}
 use Rattle.protocol.proofs.Faults.{behind, said, faults_none, faults_some}
 use Rattle.register.specs.Blockwise.{secure, rest_right, place_of, callback_in, if_below}
-
--- `address_right`
-pub address_as : (s : List ℕ) (r h : Bool) → r ≡ all_within 33 126 s → h ≡ holds 35 s → r && not h ≡ address_right s
-unfolding address_right
-address_as s r h e f = rw (e, f)
 
 -- `is_secure`
 turned : (x y : ℕ) → eqb x y ≡ eqb y x
@@ -48,12 +43,6 @@ pub secure_some : (s : List ℕ) (r q : Bool) → r ≡ eqb (length s) 0 → r �
 unfolding secure
 secure_some [] r q e f h = absurd (omega (arith, eqb-false 0 0 (sym e ∙ f)))
 secure_some (x ∷ s) r q e f h = h ∙ same_bytewise (ascii "https://") (take 8 (x ∷ s))
-
--- `entry_right`
-pub entry_as : (s c : List ℕ) (a k g : Bool) → a ≡ address_right s → k ≡ address_right c → g ≡ secure c
-    → within 1 200 (length s) && leb (length c) 200 && a && k && g ≡ entry_right (entry s c)
-unfolding entry_right secure
-entry_as s c a k g ea ek eg = rw (ea, ek, eg)
 
 -- `rest_right`: the parts as the code has them
 module _ (b : List ℕ) (n m : ℕ) (long : length b ≡ 512) (short : n ≤ 200) (brief : m ≤ 200) where
@@ -235,22 +224,6 @@ block_lent b d k h c = rw c (chunk_at (length b / 512) k b d (omega arith))
 pub registered_some : (s b : List ℕ) (o : Option ℕ) → o ≡ if_below (length b / 512) (place_of s (decode_register b)) → is_some o ≡ registered s (decode_register b)
 registered_some s b o e = below_is (length b / 512) (place_of s (decode_register b)) o e ∙ stands s b (place_of s (decode_register b)) refl
 
--- `at_fault`
-pub blocks_before : (b : List ℕ) (k : ℕ) → 512 * k + 512 ≤ length b → 512 * k ≡ length (take (512 * k) b)
-blocks_before b k h = sym (length-take-le (512 * k) b (omega arith))
-
-module _ (b t : List ℕ) (k : ℕ) (et : t ≡ part (512 * k) 512 b) (q : Bool) (eq : q ≡ panel_right t) where
-  this : panel_right (part (512 * k) 512 b) ≡ q
-  this = sym (eq ∙ rw et)
-
-  pub fault_wrong : q ≡ false → not q ≡ at_fault b k
-  unfolding at_fault
-  fault_wrong f = rw (this, f)
-
-  pub fault_twice : (s : List ℕ) (r : Bool) → q ≡ true → s ≡ service_in b k → r ≡ registered s (decode_register (take (512 * k) b)) → r ≡ at_fault b k
-  unfolding at_fault
-  fault_twice s r f es er = er ∙ rw (this, f, es)
-
 -- `first_fault`
 module _ (b : List ℕ) where
   fault_listed : (n k : ℕ) → find (at_fault b) (range_with_len k n) ≡ if_below (k + n) (fault_from k n b)
@@ -263,14 +236,6 @@ module _ (b : List ℕ) where
 
 -- `check` and `register_lawful`
 module _ (b : List ℕ) (s : Bool) (es : s ≡ register_shape (length b)) where
-  pub check_shape : {f : Fault} → s ≡ false → f ≡ fault 3 0 → f ≡ fault_of b
-  unfolding fault_of register_lawful
-  check_shape q e = e ∙ rw (← es, q)
-
-  pub unlawful_shape : s ≡ false → s ≡ register_lawful b
-  unfolding register_lawful
-  unlawful_shape f = rw (← es, f)
-
   module _ (f : s ≡ true) (o : Option ℕ) (e : o ≡ if_below (length b / 512) (fault_from 0 (length b / 512) b)) where
     pub check_fault : (k : ℕ) {y : Fault} → o ≡ Some k → y ≡ fault 3 k → y ≡ fault_of b
     unfolding fault_of

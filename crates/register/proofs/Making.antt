@@ -1,39 +1,24 @@
 -- A block made of two texts: its refusals, the bytes that fill it, and what the call gives. Assumes nothing.
 use mathlib.Core.Path.{◌≡◌, sym, ap, ◌∙◌}
-use mathlib.Core.Bool.{Bool, true, false}
-use mathlib.Core.List.{List, append_assoc}
+use mathlib.Core.List.{List, [], ◌++◌, append_assoc, append-nil}
 use Prim.Native.Nat.{ℕ, ◌≤◌}
 use native.Mathlib.Omega.{arith}
-use borrow.Author.Tests.{eq-eqb, ne_eqb}
+use borrow.Author.Tests.{ne_eqb}
 use lib.Dec.{lit≤}
-use lib.ListN.{length, take}
+use lib.ListN.{length, take, drop, drop_of_length-le}
 use Rattle.std.specs.Prelude.{Result}
 use Rattle.std.specs.Result.{IsErrAnd}
 use Rattle.protocol.specs.declared.Refusal.{Refusal}
 use Rattle.protocol.specs.Refusals.{refusal_number, number_of_result}
 use Rattle.protocol.specs.Bytes.{pad_to, bytes_of, spliced}
 use Rattle.protocol.specs.Blocks.{sealed}
-use Rattle.protocol.specs.Register.{entry_body, encode_entry, entry_right}
+use Rattle.protocol.specs.Register.{entry_body, encode_entry}
 use Rattle.protocol.specs.Panels.{entry, panel_refusal, made, panel_of}
 use Rattle.protocol.proofs.Refusals.{refused_some, handed}
 use Rattle.protocol.proofs.Laws.{length_bytes, length_pad}
 use Rattle.protocol.proofs.Panels.{right_short}
 use Rattle.protocol.proofs.Faults.{panel_passed}
 use Rattle.block.proofs.Lay.{laid_first, laid_next, front}
-
--- `panel_refusal`
-module _ (s c : List ℕ) (n : ℕ) (q : Bool) (e : q ≡ entry_right (entry s c)) where
-  pub panel_unfit : q ≡ false → 3 ≡ panel_refusal s c n
-  unfolding panel_refusal
-  panel_unfit f = rw (← e, f)
-
-  pub panel_size : q ≡ true → (n ≡ 512 → ⊥) → 4 ≡ panel_refusal s c n
-  unfolding panel_refusal
-  panel_size f h = rw (← e, f, ne_eqb n 512 h)
-
-  pub panel_fits : q ≡ true → n ≡ 512 → 0 ≡ panel_refusal s c n
-  unfolding panel_refusal
-  panel_fits f h = rw (← e, f, eq-eqb n 512 h)
 
 -- `put_entry`: four texts fill the 508 bytes that are sealed
 pub entry_filled : (s c b : List ℕ) {l1 l2 l3 l4 l5 : List ℕ} → length b ≡ 512 → length s ≤ 200 → length c ≤ 200
@@ -58,10 +43,6 @@ module _ (s c b : List ℕ) where
   panel_refused r e is h = rw (← h, ne_eqb (refusal_number e) 0 (refused_some e), handed r e is)
 
   module _ (e : 0 ≡ panel_refusal s c (length b)) where
-    pub panel_done : {b' : List ℕ} → b' ≡ encode_entry (entry s c) → made 0 b' ≡ panel_of s c b
-    unfolding panel_of
-    panel_done q = rw (← e, q)
-
     pub panel_block : length b ≡ 512
     panel_block = (panel_passed s c b (sym e)).1
 
@@ -70,3 +51,11 @@ module _ (s c b : List ℕ) where
 
     pub panel_callback : length c ≤ 200
     panel_callback = (right_short (entry s c) (panel_passed s c b (sym e)).0).callback
+
+    -- the block that was lent is the whole of the caller's
+    pub panel_put : (y : List ℕ) → y ≡ encode_entry (entry s c) → made 0 (y ++ drop 512 b) ≡ panel_of s c b
+    unfolding panel_of
+    panel_put y q =
+        let z : drop 512 b ≡ [] = drop_of_length-le b {i = 512} (omega (arith, panel_block)) in
+        let w : panel_refusal s c (length b) ≡ 0 = sym e in
+        rw (z, append-nil, q, w)

@@ -16,6 +16,7 @@ use protocol::{Fault, Refusal};
 // ---- the rules of an entry
 
 // Bytes 33 to 126, no `#`.
+#[tactic(auto, unfolding(protocol::specs::Register::address_right))]
 fn address_right(s: &[u8]) -> bool
     ensures { result ≡ address_right s.now }
 {
@@ -23,6 +24,7 @@ fn address_right(s: &[u8]) -> bool
 }
 
 // A callback that is not empty begins `https://`.
+#[tactic(auto, using(crate::proofs::Laws::secure_none, crate::proofs::Laws::secure_some))]
 fn is_secure(s: &[u8]) -> bool
     ensures { result ≡ secure s.now }
 {
@@ -30,6 +32,7 @@ fn is_secure(s: &[u8]) -> bool
 }
 
 // A service of 1 to 200 bytes, a callback of at most 200.
+#[tactic(auto, unfolding(protocol::specs::Register::entry_right, crate::specs::Blockwise::secure))]
 fn entry_right(service: &[u8], callback: &[u8]) -> bool
     ensures { result ≡ entry_right (entry service.now callback.now) }
 {
@@ -51,12 +54,14 @@ fn text_of<'a>(b: &'a [u8; 512], field: usize, at: usize) -> &'a [u8]
     &b[at..to.min(512)]
 }
 
+#[tactic(auto, unfolding(protocol::specs::Register::decode_entry))]
 fn service_of<'a>(b: &'a [u8; 512]) -> &'a [u8]
     ensures { result.now ≡ (decode_entry b.now).service }
 {
     text_of(b, 0, 4)
 }
 
+#[tactic(auto, unfolding(protocol::specs::Register::decode_entry))]
 fn callback_in<'a>(b: &'a [u8; 512]) -> &'a [u8]
     ensures { result.now ≡ (decode_entry b.now).callback }
 {
@@ -64,6 +69,7 @@ fn callback_in<'a>(b: &'a [u8; 512]) -> &'a [u8]
 }
 
 // Behind texts of n and m bytes.
+#[tactic(auto, using(crate::proofs::Laws::rest_as))]
 fn rest_right(b: &[u8; 512], n: usize, m: usize) -> bool
     requires { (n ≤ 200) × (m ≤ 200) }
     ensures { result ≡ rest_right n m b.now }
@@ -75,6 +81,7 @@ fn rest_right(b: &[u8; 512], n: usize, m: usize) -> bool
         & block::all_within(&b[callback..508], 0, 0)
 }
 
+#[tactic(auto, using(crate::proofs::Meaning::limit_service, crate::proofs::Meaning::limit_callback, crate::proofs::Meaning::block_no))]
 fn block_right(b: &[u8; 512]) -> bool
     ensures { result ≡ panel_right b.now }
 {
@@ -86,6 +93,7 @@ fn block_right(b: &[u8; 512]) -> bool
 // ---- services
 
 // Block k, where it stands.
+#[tactic(auto, using(crate::proofs::Laws::block_lent))]
 fn block_at<'a>(b: &'a [u8], k: usize) -> &'a [u8; 512]
     requires { 512 * k + 512 ≤ length b.now }
     ensures { result.now ≡ part (512 * k) 512 b.now }
@@ -95,6 +103,7 @@ fn block_at<'a>(b: &'a [u8], k: usize) -> &'a [u8; 512]
 }
 
 // The service of block k, where it stands.
+#[tactic(auto, unfolding(protocol::specs::Panels::service_in))]
 pub fn service_at<'a>(b: &'a [u8], k: usize) -> &'a [u8]
     requires { 512 * k + 512 ≤ length b.now }
     ensures { result.now ≡ service_in b.now k }
@@ -103,6 +112,7 @@ pub fn service_at<'a>(b: &'a [u8], k: usize) -> &'a [u8]
 }
 
 // And its callback.
+#[tactic(auto, unfolding(crate::specs::Blockwise::callback_in))]
 pub fn callback_at<'a>(b: &'a [u8], k: usize) -> &'a [u8]
     requires { 512 * k + 512 ≤ length b.now }
     ensures { result.now ≡ callback_in b.now k }
@@ -115,9 +125,10 @@ fn place_of(b: &[u8], service: &[u8]) -> Option<usize>
     ensures { result ≡ if_below (length b.now / 512) (place_of service.now (decode_register b.now)) }
 {
     let m = b.len() / 512;
-    (0..m).find(|k| text::same(service, service_at(b, *k)))
+    (0..m).find(|k| service == service_at(b, *k))
 }
 
+#[tactic(auto, using(crate::proofs::Laws::registered_some))]
 fn registered(b: &[u8], service: &[u8]) -> bool
     ensures { result ≡ registered service.now (decode_register b.now) }
 {
@@ -126,6 +137,7 @@ fn registered(b: &[u8], service: &[u8]) -> bool
 
 // ---- the judge
 
+#[tactic(auto, unfolding(protocol::specs::Panels::at_fault))]
 fn at_fault(b: &[u8], k: usize) -> bool
     requires { 512 * k + 512 ≤ length b.now }
     ensures { result ≡ at_fault b.now k }
@@ -158,6 +170,7 @@ fn faulty(block: usize) -> Fault
 }
 
 // The refusal of a register, 3 or 0, and its first block at fault.
+#[tactic(auto, using(crate::proofs::Laws::check_none), unfolding(protocol::specs::Panels::fault_of, protocol::specs::Register::register_lawful))]
 pub fn check(b: &[u8]) -> Fault
     ensures { result ≡ fault_of b.now }
 {
@@ -173,6 +186,7 @@ pub fn check(b: &[u8]) -> Fault
     }
 }
 
+#[tactic(auto, using(crate::proofs::Laws::lawful_none), unfolding(protocol::specs::Register::register_lawful))]
 pub fn register_lawful(b: &[u8]) -> bool
     ensures { result ≡ register_lawful b.now }
 {
@@ -181,6 +195,7 @@ pub fn register_lawful(b: &[u8]) -> bool
 
 // ---- a block made
 
+#[tactic(auto, unfolding(protocol::specs::Panels::panel_refusal))]
 fn panel_refusal(service: &[u8], callback: &[u8], size: usize) -> Result<(), Refusal>
     ensures { number_of_result result ≡ panel_refusal service.now callback.now size }
 {
@@ -193,9 +208,8 @@ fn panel_refusal(service: &[u8], callback: &[u8], size: usize) -> Result<(), Ref
     Ok(())
 }
 
-// An array here, lent from the caller's slice by `try_into`, was tried, and the proof that the slice holds the entry didn't close.
-fn put_entry(b: &mut [u8], service: &[u8], callback: &[u8])
-    requires { (length b.old ≡ 512) × (length service.now ≤ 200) × (length callback.now ≤ 200) }
+fn put_entry(b: &mut [u8; 512], service: &[u8], callback: &[u8])
+    requires { (length service.now ≤ 200) × (length callback.now ≤ 200) }
     ensures { b.new ≡ encode_entry (entry service.now callback.now) }
 {
     block::put(b, 0, 2, service.len() as u64);
@@ -206,10 +220,12 @@ fn put_entry(b: &mut [u8], service: &[u8], callback: &[u8])
 }
 
 // The block of a service and a callback. Refused with 3 or 4.
+#[tactic(auto, unfolding(protocol::specs::Panels::panel_of), using(crate::proofs::Making::panel_block, crate::proofs::Making::panel_service, crate::proofs::Making::panel_callback))]
 pub fn panel(service: &[u8], callback: &[u8], block: &mut [u8]) -> Result<(), Refusal>
     ensures { made (number_of_result result) block.new ≡ panel_of service.now callback.now block.old }
 {
     panel_refusal(service, callback, block.len())?;
-    put_entry(block, service, callback);
+    let b = block.first_chunk_mut().unwrap();
+    put_entry(b, service, callback);
     Ok(())
 }

@@ -5,15 +5,15 @@
 
 ghost use Rattle.std.specs.Prelude.{◌≡◌, length, Some, None, option_map};
 ghost use Rattle.protocol.specs.Bytes.{if};
-ghost use Rattle.protocol.specs.Request.{decoded};
-ghost use Rattle.request.specs.Value.{text_of, right_by, judged_as, callback_as};
-ghost use Rattle.request.specs.Spelled.{AskedIn, PostedIn, LeavingIn, ShownIn, WantedIn};
+ghost use Rattle.protocol.specs.Request.{decoded, asked, posted, leaving, shown, wanted};
+ghost use Rattle.request.specs.Value.{spelled, right_by, judged_as, callback_as};
+ghost use Rattle.request.specs.Spelled.{spelled_asked, spelled_posted, spelled_leaving, spelled_shown, spelled_wanted};
 
 mod value;
 
 use protocol::Validator;
 use query::Place;
-pub use value::Value;
+pub use value::{Spelling, Value};
 
 // The longest decoded values: of username, lt, ticket and pgt; of password; of the others.
 pub const SHORT: usize = 64;
@@ -25,94 +25,103 @@ pub const LONG: usize = 200;
 // What the names of a path ask: values, and what is set by being present.
 #[derive(Clone, Copy)]
 pub struct LoginQuery<'a> {
-    pub service: Value<'a>,
+    pub service: Value<'a, LONG>,
     pub renew: bool,
     pub gateway: bool,
 }
 
 #[derive(Clone, Copy)]
 pub struct LoginBody<'a> {
-    pub service: Value<'a>,
-    pub username: Value<'a>,
-    pub password: Value<'a>,
-    pub lt: Value<'a>,
+    pub service: Value<'a, LONG>,
+    pub username: Value<'a, SHORT>,
+    pub password: Value<'a, PASSWORD>,
+    pub lt: Value<'a, SHORT>,
 }
 
 #[derive(Clone, Copy)]
 pub struct ValidatorQuery<'a> {
-    pub service: Value<'a>,
-    pub ticket: Value<'a>,
+    pub service: Value<'a, LONG>,
+    pub ticket: Value<'a, SHORT>,
     pub renew: bool,
-    pub pgt_url: Value<'a>,
+    pub pgt_url: Value<'a, LONG>,
 }
 
 #[derive(Clone, Copy)]
 pub struct ProxyQuery<'a> {
-    pub pgt: Value<'a>,
-    pub target: Value<'a>,
+    pub pgt: Value<'a, SHORT>,
+    pub target: Value<'a, LONG>,
 }
 
-// Which values may stand for a name: plain text up to a limit, any bytes, or a name in UTF-8.
+// Which bytes a value may have: those of plain text, any, or those of a name in UTF-8.
 // Named, and no closure: `right_by`, of which the clauses below speak, tells the three apart by name.
 #[derive(Clone, Copy)]
 enum Rule {
-    Plain(usize),
+    Plain,
     Password,
     Username,
 }
 
-// The length of a value that may stand.
-fn right_length(raw: &[u8], in_body: bool, rule: Rule) -> Option<usize>
-    ensures { result ≡ if (right_by rule (decoded in_body raw.now)) (Some (length (decoded in_body raw.now))) None }
+// The length of a value that may stand, by its rule and its limit.
+#[tactic(auto, unfolding(crate::specs::Value::right_by, decode::specs::Judging::judged, decode::specs::Judging::judged_name))]
+fn right_length<const MOST: usize>(raw: &[u8], in_body: bool, rule: Rule) -> Option<usize>
+    ensures { result ≡ if (right_by MOST rule (decoded in_body raw.now)) (Some (length (decoded in_body raw.now))) None }
 {
     match rule {
-        Rule::Plain(most) => decode::judge(raw, in_body, 32, 126, most),
-        Rule::Password => decode::judge(raw, in_body, 0, 255, PASSWORD),
-        Rule::Username => decode::judge_name(raw, in_body, SHORT),
+        Rule::Plain => decode::judge(raw, in_body, 32, 126, MOST),
+        Rule::Password => decode::judge(raw, in_body, 0, 255, MOST),
+        Rule::Username => decode::judge_name(raw, in_body, MOST),
     }
 }
 
 // A name judged by what was noted of it. One that stands twice is bad.
-fn judged<'a>(place: Place<'a>, in_body: bool, rule: Rule) -> Option<Value<'a>>
-    ensures { option_map text_of result ≡ judged_as in_body rule place.entry }
+#[tactic(auto, using(crate::proofs::Laws::right_short, crate::proofs::Laws::right_bytes), unfolding(crate::specs::Value::judged_as))]
+fn judged<'a, const MOST: usize>(
+    place: Place<'a>,
+    in_body: bool,
+    rule: Rule,
+) -> Option<Value<'a, MOST>>
+    ensures { option_map spelled result ≡ judged_as MOST in_body rule place.entry }
 {
     let raw = place.raw;
-    let length = right_length(raw, in_body, rule)?;
+    let length = right_length::<MOST>(raw, in_body, rule)?;
     if 1 < place.count {
         return None;
     }
-    Some(Value {
+    let spelling = Spelling {
         raw,
         in_body,
         length,
-    })
+    };
+    Some(Value { spelling })
 }
 
 // The callback's name, which /cas/validate does not use.
-fn judged_callback<'a>(validator: Validator, place: Place<'a>) -> Option<Value<'a>>
-    ensures { option_map text_of result ≡ callback_as validator place.entry }
+#[tactic(auto, unfolding(crate::specs::Value::callback_as, protocol::specs::Request::decoded_from, protocol::specs::Bytes::all_within))]
+fn judged_callback<'a>(validator: Validator, place: Place<'a>) -> Option<Value<'a, LONG>>
+    ensures { option_map spelled result ≡ callback_as validator place.entry }
 {
     match validator {
         Validator::Plain => {
             let raw = &place.raw[..0];
-            Some(Value {
+            let spelling = Spelling {
                 raw,
                 in_body: false,
                 length: 0,
-            })
+            };
+            Some(Value { spelling })
         }
-        Validator::Service => judged(place, false, Rule::Plain(LONG)),
-        Validator::Proxy => judged(place, false, Rule::Plain(LONG)),
+        Validator::Service => judged(place, false, Rule::Plain),
+        Validator::Proxy => judged(place, false, Rule::Plain),
     }
 }
 
 pub fn login_query<'a>(q: &'a [u8]) -> Option<LoginQuery<'a>>
-    ensures { AskedIn q.now result }
+    ensures { spelled_asked result ≡ asked q.now }
 {
     let found = query::walk(q, b"service", b"renew", b"gateway", b"");
-    let service = judged(found.a, false, Rule::Plain(LONG))?;
-    judged(found.b, false, Rule::Plain(LONG))?;
-    judged(found.c, false, Rule::Plain(LONG))?;
+    let service = judged(found.a, false, Rule::Plain)?;
+    judged::<LONG>(found.b, false, Rule::Plain)?;
+    judged::<LONG>(found.c, false, Rule::Plain)?;
     Some(LoginQuery {
         service,
         renew: 0 < found.b.count,
@@ -121,13 +130,13 @@ pub fn login_query<'a>(q: &'a [u8]) -> Option<LoginQuery<'a>>
 }
 
 pub fn login_body<'a>(body: &'a [u8]) -> Option<LoginBody<'a>>
-    ensures { PostedIn body.now result }
+    ensures { spelled_posted result ≡ posted body.now }
 {
     let found = query::walk(body, b"service", b"username", b"password", b"lt");
-    let service = judged(found.a, true, Rule::Plain(LONG))?;
+    let service = judged(found.a, true, Rule::Plain)?;
     let username = judged(found.b, true, Rule::Username)?;
     let password = judged(found.c, true, Rule::Password)?;
-    let lt = judged(found.d, true, Rule::Plain(SHORT))?;
+    let lt = judged(found.d, true, Rule::Plain)?;
     Some(LoginBody {
         service,
         username,
@@ -136,20 +145,21 @@ pub fn login_body<'a>(body: &'a [u8]) -> Option<LoginBody<'a>>
     })
 }
 
-pub fn logout_query<'a>(q: &'a [u8]) -> Option<Value<'a>>
-    ensures { LeavingIn q.now result }
+#[tactic(auto, using(crate::proofs::Laws::leaving_told))]
+pub fn logout_query<'a>(q: &'a [u8]) -> Option<Value<'a, LONG>>
+    ensures { spelled_leaving result ≡ leaving q.now }
 {
     let found = query::walk(q, b"url", b"", b"", b"");
-    judged(found.a, false, Rule::Plain(LONG))
+    judged(found.a, false, Rule::Plain)
 }
 
 pub fn validator_query<'a>(validator: Validator, q: &'a [u8]) -> Option<ValidatorQuery<'a>>
-    ensures { ShownIn validator q.now result }
+    ensures { spelled_shown result ≡ shown validator q.now }
 {
     let found = query::walk(q, b"service", b"ticket", b"renew", b"pgtUrl");
-    let service = judged(found.a, false, Rule::Plain(LONG))?;
-    let ticket = judged(found.b, false, Rule::Plain(SHORT))?;
-    judged(found.c, false, Rule::Plain(LONG))?;
+    let service = judged(found.a, false, Rule::Plain)?;
+    let ticket = judged(found.b, false, Rule::Plain)?;
+    judged::<LONG>(found.c, false, Rule::Plain)?;
     let pgt_url = judged_callback(validator, found.d)?;
     Some(ValidatorQuery {
         service,
@@ -160,10 +170,10 @@ pub fn validator_query<'a>(validator: Validator, q: &'a [u8]) -> Option<Validato
 }
 
 pub fn proxy_query<'a>(q: &'a [u8]) -> Option<ProxyQuery<'a>>
-    ensures { WantedIn q.now result }
+    ensures { spelled_wanted result ≡ wanted q.now }
 {
     let found = query::walk(q, b"pgt", b"targetService", b"", b"");
-    let pgt = judged(found.a, false, Rule::Plain(SHORT))?;
-    let target = judged(found.b, false, Rule::Plain(LONG))?;
+    let pgt = judged(found.a, false, Rule::Plain)?;
+    let target = judged(found.b, false, Rule::Plain)?;
     Some(ProxyQuery { pgt, target })
 }

@@ -1,13 +1,13 @@
 -- Invariant: what was noted of each name, and the pieces that are left, say what the whole query says. Assumes nothing.
 use borrow.Author.Rules.{rules}
-use Rattle.query.proofs.Laws.{noting_start, walked, name_starts, name_ends, value_inside, goes_on, count_most, noting_turn}
+use Rattle.query.proofs.Laws.{walking_start, walked, name_starts, name_ends, value_inside, goes_on, count_most, noting_turn}
 use Rattle.query.proofs.walk.Goals as goal
 
 pub loop-piece-init : goal.loop-piece-init
-loop-piece-init c = search (rules, noting_start)
+loop-piece-init c = search (rules, walking_start)
 
-pub returns-then-start-to : goal.returns-then-start-to
-returns-then-start-to c = search (rules, walked)
+pub returns-then-piece : goal.returns-then-piece
+returns-then-piece c = search (rules, walked)
 
 pub slice_bounds-name-count : goal.slice_bounds-name-count
 slice_bounds-name-count c = search (rules, name_starts)
@@ -21,32 +21,28 @@ slice_bounds-name-end c = search (rules, name_ends)
 pub raw_at-raw-requires : goal.raw_at-raw-requires
 raw_at-raw-requires c = search (rules, value_inside)
 
-pub noted-at_a-requires : goal.noted-at_a-requires
-noted-at_a-requires c = search (rules, count_most)
+pub noted-requires : goal.noted-requires
+noted-requires c = search (rules, count_most)
 
-pub noted-at_b-requires : goal.noted-at_b-requires
-noted-at_b-requires c = search (rules, count_most)
+pub noted-requires-in-loop-piece : goal.noted-requires-in-loop-piece
+noted-requires-in-loop-piece c = search (rules, count_most)
 
-pub noted-at_c-requires : goal.noted-at_c-requires
-noted-at_c-requires c = search (rules, count_most)
+pub noted-requires-in-loop-piece-2 : goal.noted-requires-in-loop-piece-2
+noted-requires-in-loop-piece-2 c = search (rules, count_most)
 
-pub noted-at_d-requires : goal.noted-at_d-requires
-noted-at_d-requires c = search (rules, count_most)
+pub noted-requires-in-loop-piece-3 : goal.noted-requires-in-loop-piece-3
+noted-requires-in-loop-piece-3 c = search (rules, count_most)
 
 pub loop-piece-smaller : goal.loop-piece-smaller
 loop-piece-smaller c = search (rules, goes_on)
 
 pub loop-piece-preserved : goal.loop-piece-preserved
 loop-piece-preserved c =
-    let at = c in
-    let noting = at.loop-piece.invariant in
-    let turn = noting_turn _ _ _ at.piece_after-piece.ensures at.if-start-to.false in (
-      turn _ _ noting.0 _ c.raw_at-raw.ensures _ c.noted-at_a.ensures,
-      (
-        turn _ _ noting.1.0 _ c.raw_at-raw.ensures _ c.noted-at_b.ensures,
-        (
-          turn _ _ noting.1.1.0 _ c.raw_at-raw.ensures _ c.noted-at_c.ensures,
-          turn _ _ noting.1.1.1 _ c.raw_at-raw.ensures _ c.noted-at_d.ensures,
-        ),
-      ),
-    )
+    let held = c.loop-piece.invariant in
+    let turn = noting_turn _ _ _ c.piece_after-piece.ensures c.if-piece.false in
+    record {
+      first = turn _ _ held.first _ c.raw_at-raw.ensures _ c.noted.ensures;
+      second = turn _ _ held.second _ c.raw_at-raw.ensures _ c.noted-in-loop-piece.ensures;
+      third = turn _ _ held.third _ c.raw_at-raw.ensures _ c.noted-in-loop-piece-2.ensures;
+      fourth = turn _ _ held.fourth _ c.raw_at-raw.ensures _ c.noted-in-loop-piece-3.ensures;
+    }

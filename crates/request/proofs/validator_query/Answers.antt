@@ -1,19 +1,18 @@
--- What the walk noted of each name, judged once. Assumes nothing.
-use borrow.Author.Rules.{rules}
-use Rattle.request.proofs.Laws.{shown_bad_service, shown_bad_ticket, shown_bad_renew, shown_bad_url, shown_given}
+-- Each name in its turn. Assumes nothing.
+use Rattle.request.proofs.Laws.{shown_as}
 use Rattle.request.proofs.validator_query.Goals as goal
 
 pub returns-in_err-service : goal.returns-in_err-service
-returns-in_err-service c = search (rules, shown_bad_service)
+returns-in_err-service c = rw (c.from_residual.ensures, shown_as c.args.validator c.walk-found.ensures, ← c.in_err-service.ensures)
 
 pub returns-in_err-ticket : goal.returns-in_err-ticket
-returns-in_err-ticket c = search (rules, shown_bad_ticket)
+returns-in_err-ticket c = rw (c.from_residual-in_err-ticket.ensures, shown_as c.args.validator c.walk-found.ensures, ← c.in_ok-service.ensures, ← c.in_err-ticket.ensures)
 
 pub returns-in_err-judged : goal.returns-in_err-judged
-returns-in_err-judged c = search (rules, shown_bad_renew)
+returns-in_err-judged c = rw (c.from_residual-in_err-judged.ensures, shown_as c.args.validator c.walk-found.ensures, ← c.in_ok-service.ensures, ← c.in_ok-ticket.ensures, ← c.in_err-judged.ensures)
 
 pub returns-in_err-pgt_url : goal.returns-in_err-pgt_url
-returns-in_err-pgt_url c = search (rules, shown_bad_url)
+returns-in_err-pgt_url c = rw (c.from_residual-in_err-pgt_url.ensures, shown_as c.args.validator c.walk-found.ensures, ← c.in_ok-service.ensures, ← c.in_ok-ticket.ensures, ← c.in_ok-judged.ensures, ← c.in_err-pgt_url.ensures)
 
 pub returns : goal.returns
-returns c = shown_given _ _ _ c.walk-found.ensures _ _ c.in_ok-judged.field-0 _ c.in_ok-service.ensures c.in_ok-ticket.ensures c.in_ok-judged.ensures c.in_ok-pgt_url.ensures
+returns c = rw (shown_as c.args.validator c.walk-found.ensures, ← c.in_ok-service.ensures, ← c.in_ok-ticket.ensures, ← c.in_ok-judged.ensures, ← c.in_ok-pgt_url.ensures)

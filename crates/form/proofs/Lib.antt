@@ -1,2 +1,0 @@
--- The laws of the form reader.
-pub mod Laws

@@ -1,8 +1,0 @@
--- The first text of a block, by its length. Assumes nothing.
-use borrow.Author.Rules.{rules}
-use Rattle.protocol.specs.Register.{decode_entry}
-use Rattle.register.proofs.service_of.Goals as goal
-
-pub returns : goal.returns
-unfolding decode_entry
-returns c = search rules
