@@ -2,13 +2,12 @@
 // which is at most one year short; the months are counted.
 #![tactic(auto)]
 
-ghost use Rattle.std.specs.Prelude.{◌≡◌, ◌∷◌, ◌+◌, ◌≤◌, ◌<◌};
+ghost use Rattle.std.specs.Prelude.{◌≡◌, ◌∷◌, ◌≤◌, ◌<◌};
 ghost use Rattle.protocol.specs.Calendar.{is_leap, month_length, year_of, month_of, date_of, padded, day_text, clock_text, date_text};
-ghost use Rattle.protocol.specs.Table.{last_time};
 ghost use Rattle.protocol.specs.Written.{Room, Wrote};
 ghost use Rattle.calendar.specs.Years.{days_in};
 
-use protocol::{Date, YearDay};
+use protocol::{Date, Time, YearDay};
 
 // The days of the first years of our era, counted from year 1.
 #[tactic(auto, unfolding(crate::specs::Years::days_in))]
@@ -20,6 +19,7 @@ fn days_in(years: u64) -> u64
 }
 
 // The year of a day after 1 January 1970. 719,162 days lie before that one.
+#[tactic(auto, using(crate::proofs::Years::this_before, crate::proofs::Years::this_year, crate::proofs::Years::next_year))]
 fn year_of(days: u64) -> YearDay
     requires { days ≤ 12725829 }
     ensures { result ≡ year_of days }
@@ -60,6 +60,7 @@ fn month_length(year: u64, month: u64) -> u64
 
 // The date of a day of a year.
 // A `find` or a fold over the months would have to carry the days left beside the month, and be no plainer.
+#[tactic(auto, using(crate::proofs::Months::count_start, crate::proofs::Months::count_found, crate::proofs::Months::count_on, crate::proofs::Months::count_december))]
 fn month_of(year: u64, day: u64) -> Date
     requires { day < 366 }
     ensures { result ≡ month_of year day }
@@ -84,6 +85,7 @@ fn month_of(year: u64, day: u64) -> Date
 }
 
 // The date of a day after 1 January 1970.
+#[tactic(auto, using(crate::proofs::Months::day_fits, crate::proofs::Months::date_is))]
 fn date_of(days: u64) -> Date
     requires { days ≤ 12725829 }
     ensures { result ≡ date_of days }
@@ -126,11 +128,10 @@ fn put_clock(out: &mut [u8], at: usize, s: u64) -> usize
     text::put_bytes(out, a3, b"Z")
 }
 
-pub fn put_date(out: &mut [u8], at: usize, time: u64) -> usize
-    requires room { Room out.old at (date_text time) }
-    requires time_le_last_time { time ≤ last_time }
-    ensures { Wrote out.old at out.new result (date_text time) }
+pub fn put_date(out: &mut [u8], at: usize, time: Time) -> usize
+    requires { Room out.old at (date_text time.seconds) }
+    ensures { Wrote out.old at out.new result (date_text time.seconds) }
 {
-    let to = put_day(out, at, time / 86400);
-    put_clock(out, to, time % 86400)
+    let to = put_day(out, at, time.seconds / 86400);
+    put_clock(out, to, time.seconds % 86400)
 }

@@ -22,9 +22,6 @@ module _ (old new : List ℕ) (k : ℕ) (h : 512 * k + 512 ≤ length new) where
       let o : length (block_at k old) ≤ length (drop (512 * k) old) = omega (arith, length-take 512 (drop (512 * k) old)) in
       ap not (lengths_differ (block_at k old) (block_at k new) (λ e. omega (arith, length-drop (512 * k) old)))
 
-  pub changed_in_place : {r : Bool} → r ≡ same (part (512 * k) (512 * k + 512 - 512 * k) old) (part (512 * k) (512 * k + 512 - 512 * k) new) → not r ≡ not (same (block_at k old) (block_at k new))
-  changed_in_place e = let n : 512 * k + 512 - 512 * k ≡ 512 = omega arith in rw (e, n)
-
 -- the changes of one block
 pick_second : {A : Type 0} (s : Bool) (x y : A) → not s ≡ true → if s x y ≡ y
 pick_second true x y e = absurd (let z : ◌≡◌ {A = ℕ} 0 1 = cc in omega arith)

@@ -8,6 +8,7 @@ ghost use Rattle.protocol.specs.Written.{Wrote};
 ghost use Rattle.changed.specs.Changes.{block_at, change_at, changes_of, blocks_text, changed_text};
 
 // Are two texts of one length the same? The loop has no early end, so that many bytes are taken at a time.
+#[tactic(auto, using(std::proofs::lemmas::Iterator::empty_from_Zip, crate::proofs::Compare::agree_next, crate::proofs::Compare::agree_all), unfolding(protocol::specs::Bytes::same))]
 fn alike(a: &[u8], b: &[u8]) -> bool
     requires { length a.now ≡ length b.now }
     ensures { result ≡ same a.now b.now }
@@ -20,6 +21,7 @@ fn alike(a: &[u8], b: &[u8]) -> bool
 }
 
 // Is the block of a number another one than before? A block that the old table does not have is.
+#[tactic(auto, using(crate::proofs::Writing::short_changed))]
 fn is_changed(old: &[u8], new: &[u8], k: usize) -> bool
     requires { 512 * k + 512 ≤ length new.now }
     ensures { result ≡ not (same (block_at k old.now) (block_at k new.now)) }

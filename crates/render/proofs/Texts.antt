@@ -1,11 +1,13 @@
 -- The parts of pages and addresses, put one after the other, are the text of their answer, and there is room for it in 8,192 bytes.
 -- Assumes nothing.
-use mathlib.Core.Path.{◌≡◌, refl, sym}
+use mathlib.Core.Path.{◌≡◌, refl, sym, ◌∙◌}
 use mathlib.Core.Bool.{Bool, true, false}
 use mathlib.Core.List.{List, [], ◌∷◌, ◌++◌, append_assoc, append-nil}
 use Prim.Native.Nat.{ℕ, ◌≤◌}
 use native.Mathlib.Omega.{arith}
+use lib.Dec.{eqb}
 use lib.ListN.{length}
+use borrow.Author.Tests.{eqb-true, eqb-false}
 use Rattle.protocol.specs.Bytes.{if, ascii, joined, holds, digits}
 use Rattle.protocol.specs.Answers.{ErrorPage, SignedIn, SignedOut, FormPage, RedirectTo, YesNo, page_head, form_text, extended, callback_text, reply_text}
 use Rattle.protocol.specs.Written.{Room, Wrote}
@@ -48,15 +50,18 @@ linked_text [] z = absurd (z refl)
 linked_text (b ∷ s) z = simp append_assoc
 
 module _ (d link e : List ℕ) (to : ℕ) (w : Wrote d 0 e to signed_out) where
-  pub signed_out_wrote : length link ≡ 0 → Wrote d 0 e to (reply_text (SignedOut link))
-  signed_out_wrote z = wrote_as (sym (out_text link z)) w
+  pub signed_out_wrote : {r : Bool} → r ≡ eqb (length link) 0 → r ≡ true → Wrote d 0 e to (reply_text (SignedOut link))
+  signed_out_wrote q y = wrote_as (sym (out_text link (eqb-true (length link) 0 (sym q ∙ y)))) w
 
-  module _ (z : length link ≡ 0 → ⊥) where
+  module _ {r : Bool} (q : r ≡ eqb (length link) 0) (y : r ≡ false) where
+    some_link : length link ≡ 0 → ⊥
+    some_link = eqb-false (length link) 0 (sym q ∙ y)
+
     pub link_room : 8192 ≤ length d → length link ≤ 200 → Room e to (link_line link)
-    link_room h k = piece_2 _ _ _ _ _ (room_as (linked_text link z) (fits d h (out_page link k))) e to w
+    link_room h k = piece_2 _ _ _ _ _ (room_as (linked_text link some_link) (fits d h (out_page link k))) e to w
 
     pub linked_wrote : (f : List ℕ) (n : ℕ) → Wrote e to f n (link_line link) → Wrote d 0 f n (reply_text (SignedOut link))
-    linked_wrote f n v = wrote_as (sym (linked_text link z)) (search (last_piece, more_pieces))
+    linked_wrote f n v = wrote_as (sym (linked_text link some_link)) (search (last_piece, more_pieces))
 
 -- the service in a form, or none
 hidden_service : (s : List ℕ) → (length s ≡ 0 → ⊥) → service_input s ≡ hidden_input (ascii "service") s
@@ -65,15 +70,18 @@ hidden_service [] z = absurd (z refl)
 hidden_service (b ∷ s) z = refl
 
 module _ (d s : List ℕ) (at : ℕ) where
-  pub no_service : Room d at (service_input s) → length s ≡ 0 → Wrote d at d at (service_input s)
-  no_service r z = no_line d (ascii "<input name=\"service\" type=\"hidden\" value=\"") s (ascii "\">\n") at z (omega (arith, r.fits))
+  pub no_service : Room d at (service_input s) → {r : Bool} → r ≡ eqb (length s) 0 → r ≡ true → Wrote d at d at (service_input s)
+  no_service r q y = no_line d (ascii "<input name=\"service\" type=\"hidden\" value=\"") s (ascii "\">\n") at (eqb-true (length s) 0 (sym q ∙ y)) (omega (arith, r.fits))
 
-  module _ (z : length s ≡ 0 → ⊥) where
+  module _ {r : Bool} (q : r ≡ eqb (length s) 0) (y : r ≡ false) where
+    some_service : length s ≡ 0 → ⊥
+    some_service = eqb-false (length s) 0 (sym q ∙ y)
+
     pub service_room : Room d at (service_input s) → Room d at (hidden_input (ascii "service") s)
-    service_room r = room_as (hidden_service s z) r
+    service_room r = room_as (hidden_service s some_service) r
 
     pub service_wrote : (e : List ℕ) (to : ℕ) → Wrote d at e to (hidden_input (ascii "service") s) → Wrote d at e to (service_input s)
-    service_wrote e to w = wrote_as (sym (hidden_service s z)) w
+    service_wrote e to w = wrote_as (sym (hidden_service s some_service)) w
 
 -- the form
 form_text_lem : (n : ℕ) (lt s : List ℕ) → reply_text (FormPage n lt s) ≡ joined (status_head n ∷ form_parts lt s ∷ [])
@@ -134,17 +142,20 @@ unfolding reply_text
 alone_text service [] z = refl
 alone_text service (b ∷ t) z = absurd (omega arith)
 
-pub alone_wrote : (d e service ticket : List ℕ) (to : ℕ) → length ticket ≡ 0 → Wrote d 0 e to service → Wrote d 0 e to (reply_text (RedirectTo service ticket))
-alone_wrote d e service ticket to z w = wrote_as (alone_text service ticket z) w
+pub alone_wrote : (d e service ticket : List ℕ) (to : ℕ) {r : Bool} → r ≡ eqb (length ticket) 0 → r ≡ true → Wrote d 0 e to service → Wrote d 0 e to (reply_text (RedirectTo service ticket))
+alone_wrote d e service ticket to q y w = wrote_as (alone_text service ticket (eqb-true (length ticket) 0 (sym q ∙ y))) w
 
 redirect_text_lem : (service ticket : List ℕ) → (length ticket ≡ 0 → ⊥) → reply_text (RedirectTo service ticket) ≡ joined (extended service [] ∷ ascii "ticket=" ∷ ticket ∷ [])
 unfolding reply_text joined
 redirect_text_lem service [] z = absurd (z refl)
 redirect_text_lem service (b ∷ t) z = rw (append-nil t) (sym (extended-more service (ascii "ticket=" ++ (b ∷ t))))
 
-module _ (d service ticket : List ℕ) (z : length ticket ≡ 0 → ⊥) (h : 8192 ≤ length d) (k : length service ≤ 200) (l : length ticket ≤ 64) where
+module _ (d service ticket : List ℕ) {r : Bool} (q : r ≡ eqb (length ticket) 0) (y : r ≡ false) (h : 8192 ≤ length d) (k : length service ≤ 200) (l : length ticket ≤ 64) where
+  some_ticket : length ticket ≡ 0 → ⊥
+  some_ticket = eqb-false (length ticket) 0 (sym q ∙ y)
+
   redirect_room : Room d 0 (joined (extended service [] ∷ ascii "ticket=" ∷ ticket ∷ []))
-  redirect_room = room_as (redirect_text_lem service ticket z) (fits d h (redirect service ticket k l))
+  redirect_room = room_as (redirect_text_lem service ticket some_ticket) (fits d h (redirect service ticket k l))
 
   pub marked_room : Room d 0 (extended service [])
   marked_room = piece_1 _ _ _ _ redirect_room
@@ -158,7 +169,7 @@ module _ (d service ticket : List ℕ) (z : length ticket ≡ 0 → ⊥) (h : 81
       ticket_room = piece_3 _ _ _ _ _ _ redirect_room e to w f n v
 
       pub redirect_wrote : (g : List ℕ) (m : ℕ) → Wrote f n g m ticket → Wrote d 0 g m (reply_text (RedirectTo service ticket))
-      redirect_wrote g m u = wrote_as (sym (redirect_text_lem service ticket z)) (search (last_piece, more_pieces))
+      redirect_wrote g m u = wrote_as (sym (redirect_text_lem service ticket some_ticket)) (search (last_piece, more_pieces))
 
 -- a callback
 callback_text_lem : (url pgt iou : List ℕ) → callback_text url pgt iou ≡ joined (extended url [] ∷ grant_parts pgt iou ∷ [])

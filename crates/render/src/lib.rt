@@ -14,7 +14,7 @@ fn put_title(out: &mut [u8], status: u32) -> usize
     ensures { Wrote out.old 0 out.new result (title_lines status) }
 {
     let title = text::put_bytes(out, 0, b"<!DOCTYPE html>\n<title>");
-    let to = text::put_decimal(out, title, status as u64);
+    let to = text::put_decimal(out, title, u64::from(status));
     text::put_bytes(out, to, b"</title>\n")
 }
 
@@ -23,7 +23,7 @@ fn put_status(out: &mut [u8], at: usize, status: u32) -> usize
     ensures { Wrote out.old at out.new result (status_line status) }
 {
     let words = text::put_bytes(out, at, b"<p>");
-    let to = text::put_decimal(out, words, status as u64);
+    let to = text::put_decimal(out, words, u64::from(status));
     text::put_bytes(out, to, b"</p>\n")
 }
 
@@ -75,7 +75,7 @@ pub fn put_signed_out(out: &mut [u8], link: &[u8]) -> usize
         0,
         b"<!DOCTYPE html>\n<title>200</title>\n<p>Signed out</p>\n",
     );
-    if link.len() == 0 {
+    if link.is_empty() {
         return to;
     }
     put_link(out, to, link)
@@ -117,7 +117,7 @@ fn put_service(out: &mut [u8], at: usize, service: &[u8]) -> usize
     requires { Room out.old at (service_input service.now) }
     ensures { Wrote out.old at out.new result (service_input service.now) }
 {
-    if service.len() == 0 {
+    if service.is_empty() {
         return at;
     }
     put_hidden(out, at, b"service", service)
@@ -170,7 +170,7 @@ pub fn put_redirect(out: &mut [u8], service: &[u8], ticket: &[u8]) -> usize
     requires ticket_len_bound { length ticket.now ≤ 64 }
     ensures { Wrote out.old 0 out.new result (reply_text (RedirectTo service.now ticket.now)) }
 {
-    if ticket.len() == 0 {
+    if ticket.is_empty() {
         return text::put_bytes(out, 0, service);
     }
     let name = put_marked(out, service);

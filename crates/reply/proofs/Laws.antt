@@ -1,16 +1,15 @@
 -- A reply's bytes written from the start, and its result with their number, say the reply. Assumes nothing.
-use mathlib.Core.Path.{◌≡◌, refl, sym, ap, ◌∙◌}
-use mathlib.Core.Bool.{Bool, true, false}
+use mathlib.Core.Path.{◌≡◌, refl, ◌∙◌}
+use mathlib.Core.Bool.{true, false}
 use mathlib.Core.List.{List, [], ◌∷◌}
 use Prim.Native.Nat.{ℕ, ◌≤◌}
 use native.Mathlib.Omega.{arith}
 use lib.ListN.{length}
-use Rattle.protocol.specs.Bytes.{if, is_empty}
-use Rattle.protocol.specs.Answers.{Reply, RedirectTo, Success, CallbackTo, reply_text, reply_answer, data_of, callback_text}
+use Rattle.protocol.specs.Bytes.{is_empty}
+use Rattle.protocol.specs.Answers.{Reply, RedirectTo, Success, CallbackTo, reply_text, reply_answer, callback_text}
 use Rattle.protocol.specs.Calls.{outcome_with}
 use Rattle.protocol.specs.Written.{Wrote}
 use Rattle.protocol.specs.Held.{Said}
-use Rattle.protocol.specs.declared.Answer.{Answer}
 use Rattle.protocol.specs.declared.Answer.TheVariants as answer
 use Rattle.protocol.specs.declared.Outcome.{Outcome}
 use Rattle.reply.specs.Told.{told_of}
@@ -37,13 +36,3 @@ module _ {n : ℕ} {r : Outcome} {o o' : List ℕ} where
   pub said_callback : {url pgt iou : List ℕ} {serial : ℕ} → Wrote o 0 o' n (callback_text url pgt iou) → r ≡ told_of (answer.Callback serial) n → Said (CallbackTo url pgt iou serial) r o o'
   unfolding reply_answer reply_text
   said_callback {url} {pgt} {iou} {serial} w q = said (CallbackTo url pgt iou serial) w q
-
--- the data of an answer that has some
-pub data_redirect : (a : Answer) (t : Bool) {r : ℕ} → a ≡ answer.Redirect t → r ≡ if t 1 0 → r ≡ data_of a
-data_redirect a t e q = q ∙ ap data_of (sym e)
-
-pub data_text : (a : Answer) (t : Bool) {r : ℕ} → a ≡ answer.Text t → r ≡ if t 1 0 → r ≡ data_of a
-data_text a t e q = q ∙ ap data_of (sym e)
-
-pub data_xml : (a : Answer) (t : Bool) {r : ℕ} → a ≡ answer.Xml t → r ≡ if t 1 0 → r ≡ data_of a
-data_xml a t e q = q ∙ ap data_of (sym e)

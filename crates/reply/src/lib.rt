@@ -1,6 +1,6 @@
 // What a step says: the reply's bytes, written from the start of the output, and the result that goes with them; and the numbers by which
-// an answer is told to a host.
-#![tactic(auto)]
+// an answer is told to a host. The bytes that were written and the result say the reply, each time by one law, `said`.
+#![tactic(auto, using(crate::proofs::Laws::said), unfolding(protocol::specs::Answers::reply_answer))]
 
 ghost use Rattle.std.specs.Prelude.{◌≡◌, [], ◌≤◌, length};
 ghost use Rattle.protocol.specs.Answers.{number_of, data_of, status_of, serial_of};
@@ -59,6 +59,7 @@ fn serial_of(a: Answer) -> u32
 }
 
 // The result of an answer of n bytes.
+#[tactic(auto, unfolding(crate::specs::Told::told_of))]
 pub fn told(a: Answer, n: usize) -> Outcome
     ensures { result ≡ told_of a n }
 {
@@ -129,6 +130,7 @@ pub fn say_form(out: &mut [u8], status: u32, lt: &[u8], service: &[u8]) -> Outco
 }
 
 // To a service, with a ticket.
+#[tactic(auto, using(crate::proofs::Laws::said_redirect))]
 pub fn say_redirect(out: &mut [u8], service: &[u8], ticket: &[u8]) -> Outcome
     requires { (8192 ≤ length out.old) × (length service.now ≤ 200) × (1 ≤ length ticket.now) × (length ticket.now ≤ 64) }
     ensures { Said (RedirectTo service.now ticket.now) result out.old out.new }

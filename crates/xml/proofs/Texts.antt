@@ -1,13 +1,15 @@
 -- The parts of XML, put one after the other, are the text of their answer, and there is room for it in 8,192 bytes; a success in its parts.
 -- Assumes nothing.
-use mathlib.Core.Path.{◌≡◌, refl, sym}
+use mathlib.Core.Path.{◌≡◌, refl, sym, ◌∙◌}
+use mathlib.Core.Bool.{Bool, true, false}
 use mathlib.Core.List.{List, [], ◌∷◌, ◌++◌, append_assoc, append-nil}
 use Prim.Native.Nat.{ℕ, ◌≤◌}
 use native.Mathlib.Omega.{arith}
+use lib.Dec.{eqb}
 use lib.ListN.{length}
-use borrow.Author.Tests.{eq-eqb, ne_eqb}
+use borrow.Author.Tests.{eqb-true, eqb-false}
 use Rattle.protocol.specs.Bytes.{ascii, joined}
-use Rattle.protocol.specs.Answers.{Success, Failure, ProxySuccess, ProxyFailure, code_text, escaped, in_response, proxy_lines, proxies_text, success_text, failure_text, proxy_success_text, reply_text, attributes_text, mark_text}
+use Rattle.protocol.specs.Answers.{Success, Failure, ProxySuccess, ProxyFailure, code_text, escaped, in_response, proxy_lines, proxies_text, success_text, failure_text, proxy_success_text, reply_text, attributes_text}
 use Rattle.protocol.specs.Written.{Room, Wrote}
 use Rattle.protocol.proofs.Sizes.{AllShort, success, failure, ticket, refusal}
 use Rattle.text.proofs.Splice.{wrote_as, room_as, room_first}
@@ -41,14 +43,6 @@ module _ (d t : List ℕ) (h : 8192 ≤ length d) (k : length t ≤ 64) where
 failure_text_lem : (element code : List ℕ) → failure_text element code ≡ failure_parts element code
 unfolding failure_text in_response failure_parts failure_open code_twice failure_close joined
 failure_text_lem element code = simp append_assoc
-
--- which code
-module _ (x k : Code) (d element code : List ℕ) (p : x ≡ k) (q : code_text (code_of k) ≡ code) where
-  pub by_code_room : Room d 0 (failure_parts element (code_text (code_of x))) → Room d 0 (failure_parts element code)
-  by_code_room r = rw (p, q) at r
-
-  pub by_code_wrote : (e : List ℕ) (to : ℕ) → Wrote d 0 e to (failure_parts element code) → Wrote d 0 e to (failure_parts element (code_text (code_of x)))
-  by_code_wrote e to w = rw (p, q) w
 
 -- the validators' failures, and proxy's
 module _ (d : List ℕ) (x : Code) where
@@ -88,19 +82,6 @@ pub success_room : (d user : List ℕ) (since mark : ℕ) (iou : List ℕ) (prox
 success_room d user since mark iou proxies h k l m a = room_as (success_parts user since mark iou proxies) (fits d h (success user since mark iou proxies k l m a))
 
 -- its attributes
-module _ (d : List ℕ) (at mark : ℕ) where
-  pub false_room : mark ≡ 0 → Room d at (login_part (mark_text mark)) → Room d at (login_part (ascii "false"))
-  false_room z r = rw (eq-eqb mark 0 z) at r
-
-  pub false_wrote : (e : List ℕ) (to : ℕ) → mark ≡ 0 → Wrote d at e to (login_part (ascii "false")) → Wrote d at e to (login_part (mark_text mark))
-  false_wrote e to z w = rw (eq-eqb mark 0 z) w
-
-  pub true_room : (mark ≡ 0 → ⊥) → Room d at (login_part (mark_text mark)) → Room d at (login_part (ascii "true"))
-  true_room z r = rw (ne_eqb mark 0 z) at r
-
-  pub true_wrote : (e : List ℕ) (to : ℕ) → (mark ≡ 0 → ⊥) → Wrote d at e to (login_part (ascii "true")) → Wrote d at e to (login_part (mark_text mark))
-  true_wrote e to z w = rw (ne_eqb mark 0 z) w
-
 attributes_text_lem : (since mark : ℕ) → attributes_text since mark ≡ attribute_parts since mark
 unfolding attributes_text attribute_parts date_part login_part joined
 attributes_text_lem since mark = simp (append_assoc, append-nil)
@@ -110,26 +91,26 @@ abbrev iou_pieces : List ℕ → List (List ℕ)
 iou_pieces iou = ascii "    <cas:proxyGrantingTicket>" ∷ escaped iou ∷ ascii "</cas:proxyGrantingTicket>\n" ∷ []
 
 module _ (d iou : List ℕ) (at : ℕ) (r : Room d at (iou_line iou)) where
-  pub no_iou : length iou ≡ 0 → Wrote d at d at (iou_line iou)
-  no_iou z = no_line d (ascii "    <cas:proxyGrantingTicket>") iou (ascii "</cas:proxyGrantingTicket>\n") at z (omega (arith, r.fits))
+  pub no_iou : {b : Bool} → b ≡ eqb (length iou) 0 → b ≡ true → Wrote d at d at (iou_line iou)
+  no_iou q y = no_line d (ascii "    <cas:proxyGrantingTicket>") iou (ascii "</cas:proxyGrantingTicket>\n") at (eqb-true (length iou) 0 (sym q ∙ y)) (omega (arith, r.fits))
 
-  module _ (z : length iou ≡ 0 → ⊥) where
+  module _ {b : Bool} (q : b ≡ eqb (length iou) 0) (y : b ≡ false) where
+    some_iou : length iou ≡ 0 → ⊥
+    some_iou = eqb-false (length iou) 0 (sym q ∙ y)
+
     iou_room : Room d at (joined (iou_pieces iou))
-    iou_room = room_as (line-pieces (ascii "    <cas:proxyGrantingTicket>") iou (ascii "</cas:proxyGrantingTicket>\n") z) r
+    iou_room = room_as (line-pieces (ascii "    <cas:proxyGrantingTicket>") iou (ascii "</cas:proxyGrantingTicket>\n") some_iou) r
 
     pub iou_open : Room d at (ascii "    <cas:proxyGrantingTicket>")
     iou_open = piece_1 _ _ _ _ iou_room
 
     module _ (e : List ℕ) (to : ℕ) (w : Wrote d at e to (ascii "    <cas:proxyGrantingTicket>")) where
-      pub iou_value : Room e to (escaped iou)
-      iou_value = piece_2 _ _ _ _ _ iou_room e to w
-
       module _ (f : List ℕ) (n : ℕ) (v : Wrote e to f n (escaped iou)) where
         pub iou_close : Room f n (ascii "</cas:proxyGrantingTicket>\n")
         iou_close = piece_3 _ _ _ _ _ _ iou_room e to w f n v
 
         pub iou_wrote : (g : List ℕ) (m : ℕ) → Wrote f n g m (ascii "</cas:proxyGrantingTicket>\n") → Wrote d at g m (iou_line iou)
-        iou_wrote g m u = wrote_as (sym (line-pieces (ascii "    <cas:proxyGrantingTicket>") iou (ascii "</cas:proxyGrantingTicket>\n") z)) (search (last_piece, more_pieces))
+        iou_wrote g m u = wrote_as (sym (line-pieces (ascii "    <cas:proxyGrantingTicket>") iou (ascii "</cas:proxyGrantingTicket>\n") some_iou)) (search (last_piece, more_pieces))
 
 -- its head
 head_text : (user : List ℕ) (since mark : ℕ) (iou : List ℕ) → success_head user since mark iou ≡ joined (success_user user ∷ attribute_parts since mark ∷ iou_line iou ∷ [])

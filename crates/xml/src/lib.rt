@@ -5,11 +5,12 @@
 
 ghost use Rattle.std.specs.Prelude.{◌≤◌, length};
 ghost use Rattle.protocol.specs.Answers.{reply_text, code_text, mark_text, Failure, ProxySuccess, ProxyFailure};
-ghost use Rattle.protocol.specs.Table.{last_time};
 ghost use Rattle.protocol.specs.Written.{Room, Wrote};
 ghost use Rattle.xml.specs.Codes.{code_of};
 ghost use Rattle.xml.specs.Response.{response_open, response_close, failure_open, code_twice, failure_close, failure_parts, proxy_ticket};
 ghost use Rattle.xml.specs.Success.{success_user, date_part, token_line, login_part, attribute_parts, iou_line, success_head, success_tail, proxies_open, proxies_close, proxy_line};
+
+use protocol::Time;
 
 // Why a ticket is not accepted.
 #[derive(Clone, Copy)]
@@ -142,10 +143,9 @@ fn put_user(out: &mut [u8], user: &[u8]) -> usize
 }
 
 // The attributes, the first of them the date.
-fn put_since(out: &mut [u8], at: usize, since: u64) -> usize
-    requires room { Room out.old at (date_part since) }
-    requires since_le_last_time { since ≤ last_time }
-    ensures { Wrote out.old at out.new result (date_part since) }
+fn put_since(out: &mut [u8], at: usize, since: Time) -> usize
+    requires { Room out.old at (date_part since.seconds) }
+    ensures { Wrote out.old at out.new result (date_part since.seconds) }
 {
     let date = text::put_bytes(
         out,
@@ -187,10 +187,9 @@ fn put_mark(out: &mut [u8], at: usize, mark: u8) -> usize
     put_word(out, at, b"true")
 }
 
-fn put_attributes(out: &mut [u8], at: usize, since: u64, mark: u8) -> usize
-    requires room { Room out.old at (attribute_parts since mark) }
-    requires since_le_last_time { since ≤ last_time }
-    ensures { Wrote out.old at out.new result (attribute_parts since mark) }
+fn put_attributes(out: &mut [u8], at: usize, since: Time, mark: u8) -> usize
+    requires { Room out.old at (attribute_parts since.seconds mark) }
+    ensures { Wrote out.old at out.new result (attribute_parts since.seconds mark) }
 {
     let dated = put_since(out, at, since);
     let to = put_token(out, dated);
@@ -203,7 +202,7 @@ fn put_iou(out: &mut [u8], at: usize, iou: &[u8]) -> usize
     requires { Room out.old at (iou_line iou.now) }
     ensures { Wrote out.old at out.new result (iou_line iou.now) }
 {
-    if iou.len() == 0 {
+    if iou.is_empty() {
         return at;
     }
     let value = text::put_bytes(out, at, b"    <cas:proxyGrantingTicket>");
@@ -212,12 +211,11 @@ fn put_iou(out: &mut [u8], at: usize, iou: &[u8]) -> usize
 }
 
 // Success, up to the proxies: the user, the attributes, and the IOU if it is not empty.
-pub fn put_success_head(out: &mut [u8], user: &[u8], since: u64, mark: u8, iou: &[u8]) -> usize
+pub fn put_success_head(out: &mut [u8], user: &[u8], since: Time, mark: u8, iou: &[u8]) -> usize
     requires in_bounds { 8192 ≤ length out.old }
     requires user_len_bound { length user.now ≤ 200 }
-    requires since_le_last_time { since ≤ last_time }
     requires iou_len_bound { length iou.now ≤ 64 }
-    ensures { Wrote out.old 0 out.new result (success_head user.now since mark iou.now) }
+    ensures { Wrote out.old 0 out.new result (success_head user.now since.seconds mark iou.now) }
 {
     let named = put_user(out, user);
     let told = put_attributes(out, named, since, mark);

@@ -1,5 +1,4 @@
 -- Grant and IOU, in pieces.
-use borrow.Author.Rules.{rules}
 use Rattle.text.proofs.Pieces.{piece_1, piece_2, piece_3, piece_4, four_pieces}
 use Rattle.render.specs.Parts.{grant_parts}
 use Rattle.render.proofs.put_grant.Goals as goal
@@ -19,10 +18,6 @@ put_bytes-to-requires c = search piece_3
 pub put_bytes-requires : goal.put_bytes-requires
 unfolding grant_parts
 put_bytes-requires c = search piece_4
-
-pub shape_of-out : goal.shape_of-out
-unfolding grant_parts
-shape_of-out c = search rules
 
 pub returns : goal.returns
 unfolding grant_parts

@@ -1,5 +1,4 @@
 -- The head of a page, in its parts.
-use borrow.Author.Rules.{rules}
 use Rattle.text.proofs.Pieces.{piece_1, piece_2, last_piece, more_pieces}
 use Rattle.render.specs.Parts.{status_head}
 use Rattle.render.proofs.put_head.Goals as goal
@@ -11,10 +10,6 @@ put_title-to-requires c = search piece_1
 pub put_status-requires : goal.put_status-requires
 unfolding status_head
 put_status-requires c = search piece_2
-
-pub shape_of-out : goal.shape_of-out
-unfolding status_head
-shape_of-out c = search rules
 
 pub returns : goal.returns
 unfolding status_head

@@ -1,5 +1,4 @@
 -- A hidden input, in pieces.
-use borrow.Author.Rules.{rules}
 use Rattle.text.proofs.Pieces.{piece_1, piece_2, piece_3, last_piece, more_pieces}
 use Rattle.render.specs.Parts.{hidden_input}
 use Rattle.render.proofs.put_hidden.Goals as goal
@@ -15,10 +14,6 @@ put_escaped-to-requires c = search piece_2
 pub put_bytes-requires : goal.put_bytes-requires
 unfolding hidden_input
 put_bytes-requires c = search piece_3
-
-pub shape_of-out : goal.shape_of-out
-unfolding hidden_input
-shape_of-out c = search rules
 
 pub returns : goal.returns
 unfolding hidden_input

@@ -1,5 +1,4 @@
 -- The form, in its parts.
-use borrow.Author.Rules.{rules}
 use Rattle.text.proofs.Pieces.{piece_1, piece_2, piece_3, piece_4, four_pieces}
 use Rattle.render.specs.Parts.{form_parts}
 use Rattle.render.proofs.put_inputs.Goals as goal
@@ -19,10 +18,6 @@ put_service-to-requires c = search piece_3
 pub put_button-requires : goal.put_button-requires
 unfolding form_parts
 put_button-requires c = search piece_4
-
-pub shape_of-out : goal.shape_of-out
-unfolding form_parts
-shape_of-out c = search rules
 
 pub returns : goal.returns
 unfolding form_parts

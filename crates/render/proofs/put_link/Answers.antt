@@ -1,5 +1,4 @@
 -- The link, in pieces.
-use borrow.Author.Rules.{rules}
 use Rattle.text.proofs.Pieces.{piece_1, piece_2, piece_3, last_piece, more_pieces}
 use Rattle.render.specs.Parts.{link_line}
 use Rattle.render.proofs.put_link.Goals as goal
@@ -15,10 +14,6 @@ put_escaped-to-requires c = search piece_2
 pub put_bytes-requires : goal.put_bytes-requires
 unfolding link_line
 put_bytes-requires c = search piece_3
-
-pub shape_of-out : goal.shape_of-out
-unfolding link_line
-shape_of-out c = search rules
 
 pub returns : goal.returns
 unfolding link_line

@@ -3,8 +3,8 @@ use borrow.Author.Rules.{rules}
 use Rattle.render.proofs.Texts.{alone_wrote, marked_room, name_room, ticket_room, redirect_wrote}
 use Rattle.render.proofs.put_redirect.Goals as goal
 
-pub returns-then-ticket-eq0 : goal.returns-then-ticket-eq0
-returns-then-ticket-eq0 c = search (rules, alone_wrote)
+pub returns-then-is_empty : goal.returns-then-is_empty
+returns-then-is_empty c = search (rules, alone_wrote)
 
 pub put_marked-name-requires : goal.put_marked-name-requires
 put_marked-name-requires c = search (rules, marked_room)

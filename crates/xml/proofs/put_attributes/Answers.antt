@@ -1,5 +1,4 @@
 -- The attributes, one after the other.
-use borrow.Author.Rules.{rules}
 use Rattle.text.proofs.Pieces.{piece_1, piece_2, piece_3, last_piece, more_pieces}
 use Rattle.xml.specs.Success.{attribute_parts}
 use Rattle.xml.proofs.put_attributes.Goals as goal
@@ -15,10 +14,6 @@ put_token-to-requires c = search piece_2
 pub put_mark-requires : goal.put_mark-requires
 unfolding attribute_parts
 put_mark-requires c = search piece_3
-
-pub shape_of-out : goal.shape_of-out
-unfolding attribute_parts
-shape_of-out c = search rules
 
 pub returns : goal.returns
 unfolding attribute_parts

@@ -1,5 +1,4 @@
 -- A failure's code and message, in pieces.
-use borrow.Author.Rules.{rules}
 use Rattle.text.proofs.Pieces.{piece_1, piece_2, piece_3, piece_4, four_pieces}
 use Rattle.xml.specs.Response.{code_twice}
 use Rattle.xml.proofs.put_code.Goals as goal
@@ -19,10 +18,6 @@ put_bytes-to-requires c = search piece_3
 pub put_bytes-requires : goal.put_bytes-requires
 unfolding code_twice
 put_bytes-requires c = search piece_4
-
-pub shape_of-out : goal.shape_of-out
-unfolding code_twice
-shape_of-out c = search rules
 
 pub returns : goal.returns
 unfolding code_twice

@@ -1,5 +1,4 @@
 -- The end of a failure's element, in pieces.
-use borrow.Author.Rules.{rules}
 use Rattle.text.proofs.Pieces.{piece_1, piece_2, piece_3, last_piece, more_pieces}
 use Rattle.xml.specs.Response.{failure_close}
 use Rattle.xml.proofs.put_failure_close.Goals as goal
@@ -15,10 +14,6 @@ put_bytes-to-requires c = search piece_2
 pub put_bytes-requires : goal.put_bytes-requires
 unfolding failure_close
 put_bytes-requires c = search piece_3
-
-pub shape_of-out : goal.shape_of-out
-unfolding failure_close
-shape_of-out c = search rules
 
 pub returns : goal.returns
 unfolding failure_close

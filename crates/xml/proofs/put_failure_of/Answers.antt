@@ -1,5 +1,4 @@
 -- A failure, in its parts.
-use borrow.Author.Rules.{rules}
 use Rattle.text.proofs.Pieces.{piece_1, piece_2, piece_3, piece_4, piece_5, five_pieces}
 use Rattle.xml.specs.Response.{failure_parts}
 use Rattle.xml.proofs.put_failure_of.Goals as goal
@@ -23,10 +22,6 @@ put_failure_close-to-requires c = search piece_4
 pub put_close-requires : goal.put_close-requires
 unfolding failure_parts
 put_close-requires c = search piece_5
-
-pub shape_of-out : goal.shape_of-out
-unfolding failure_parts
-shape_of-out c = search rules
 
 pub returns : goal.returns
 unfolding failure_parts

@@ -1,5 +1,4 @@
 -- A proxy ticket, in pieces.
-use borrow.Author.Rules.{rules}
 use Rattle.text.proofs.Pieces.{piece_1, piece_2, piece_3, last_piece, more_pieces}
 use Rattle.xml.specs.Response.{proxy_ticket}
 use Rattle.xml.proofs.put_proxy_ticket.Goals as goal
@@ -15,10 +14,6 @@ put_bytes-to-requires c = search piece_2
 pub put_bytes-requires : goal.put_bytes-requires
 unfolding proxy_ticket
 put_bytes-requires c = search piece_3
-
-pub shape_of-out : goal.shape_of-out
-unfolding proxy_ticket
-shape_of-out c = search rules
 
 pub returns : goal.returns
 unfolding proxy_ticket

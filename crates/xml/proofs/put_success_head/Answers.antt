@@ -6,11 +6,8 @@ use Rattle.xml.proofs.put_success_head.Goals as goal
 pub put_user-named-requires : goal.put_user-named-requires
 put_user-named-requires c = search (rules, user_room)
 
-pub put_attributes-told-requires-clause-room : goal.put_attributes-told-requires-clause-room
-put_attributes-told-requires-clause-room c = search (rules, attributes_room)
-
-pub put_attributes-told-requires-clause-since_le_last_time : goal.put_attributes-told-requires-clause-since_le_last_time
-put_attributes-told-requires-clause-since_le_last_time c = search (rules, attributes_room)
+pub put_attributes-told-requires : goal.put_attributes-told-requires
+put_attributes-told-requires c = search (rules, attributes_room)
 
 pub put_iou-requires : goal.put_iou-requires
 put_iou-requires c = search (rules, last_room)

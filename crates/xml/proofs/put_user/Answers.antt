@@ -1,5 +1,4 @@
 -- The user, in pieces.
-use borrow.Author.Rules.{rules}
 use Rattle.text.proofs.Pieces.{piece_1, piece_2, piece_3, piece_4, four_pieces}
 use Rattle.xml.specs.Success.{success_user}
 use Rattle.xml.proofs.put_user.Goals as goal
@@ -19,10 +18,6 @@ put_escaped-to-requires c = search piece_3
 pub put_bytes-requires : goal.put_bytes-requires
 unfolding success_user
 put_bytes-requires c = search piece_4
-
-pub shape_of-out : goal.shape_of-out
-unfolding success_user
-shape_of-out c = search rules
 
 pub returns : goal.returns
 unfolding success_user
