@@ -1,3 +1,2 @@
--- Laws of accepted credentials: room for two, and the step for each standing of the cookie's session.
+-- Laws of accepted credentials: room for two.
 pub mod Rooms
-pub mod Laws

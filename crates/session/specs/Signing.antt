@@ -1,24 +1,23 @@
 -- What signing in is made with.
-use Rattle.std.specs.Prelude.{◌≡◌, true, List, ℕ, ◌≤◌, length}
-use Rattle.protocol.specs.Table.{Table, decode_table}
-use Rattle.protocol.specs.Steps.{Step, session_of, room_for, new_session, session_with, accepted}
-use Rattle.protocol.specs.Held.{Fine}
-use Rattle.request.specs.declared.value.Value.{Value}
-use Rattle.request.specs.Value.{Short}
+use Rattle.std.specs.Prelude.{List, ℕ, ◌≤◌, length}
+use Rattle.protocol.specs.Table.{Table}
+use Rattle.protocol.specs.Steps.{Step, session_of, new_session, session_with, accepted}
+use Rattle.protocol.specs.Held.{Fine, In}
+use Rattle.protocol.specs.declared.Standing.{Standing}
+use Rattle.protocol.specs.declared.Standing.TheVariants.{Absent, Kept, Other}
 
--- a table with room for a session of a user
-pub record Newcomer (b : List ℕ) (user : Value) : Type 0 where
+-- a table, a service, and outputs with room
+pub record Signing (b s o c : List ℕ) : Type 0 where
   pub fine : Fine b
-  pub name : Short 64 user
-  pub room : room_for 1 (decode_table b) ≡ true
-
--- a table, a user, a service, and outputs with room
-pub record Signing (b : List ℕ) (user : Value) (s o c : List ℕ) : Type 0 where
-  pub fine : Fine b
-  pub name : Short 64 user
   pub short : length s ≤ 200
   pub out : 8192 ≤ length o
   pub cookie : 64 ≤ length c
+
+-- whose session the cookie names is in the table
+abbrev pub StandsIn : Standing → List ℕ → Type 0
+StandsIn Absent b = Unit
+StandsIn (Kept s) b = In s b
+StandsIn (Other s) b = In s b
 
 -- a new session, and what a session of the cookie makes of the call
 abbrev pub session_anew : List ℕ → List ℕ → List ℕ → Table → Step
