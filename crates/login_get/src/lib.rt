@@ -7,8 +7,9 @@ ghost use Rattle.protocol.specs.Request.{Given, asking, asked};
 ghost use Rattle.protocol.specs.Steps.{way_of, signed_on, login_get};
 ghost use Rattle.protocol.specs.Held.{Fine, In, Lent, Done};
 ghost use Rattle.protocol.specs.Calls.{brought_by};
-ghost use Rattle.request.specs.Value.{text_of, Short};
+ghost use Rattle.request.specs.Value.{spelled};
 ghost use Rattle.issue.specs.Offers.{Offer};
+ghost use Rattle.login_get.specs.Going.{GoesIn};
 
 use protocol::{Brings, Outcome, Way};
 use request::LoginQuery;
@@ -16,12 +17,14 @@ use ticket::Kind;
 
 // Which way the query goes, by its service as the register has it.
 // Here and below an empty service is none: so in the meaning's `way_of` and `signed_on`, which may not change.
+#[tactic(auto, using(issue::proofs::Laws::none_given, table_find::proofs::Laws::found_is, table_find::proofs::Laws::found_low, table_find::proofs::Laws::found_none, table_find::proofs::Laws::named_slot), unfolding(protocol::specs::Steps::way_of))]
 fn way_of(table: &[u8], query: LoginQuery<'_>, service: &[u8], cookie: &[u8]) -> Way
     requires { Fine table.now }
-    ensures { result ≡ way_of (ltb 0 query.entry.service.length && eqb (length service.now) 0)
+    ensures inside { GoesIn result table.now }
+    ensures way { result ≡ way_of (ltb 0 query.entry.service.spelling.length && eqb (length service.now) 0)
         (asking service.now query.entry.renew query.entry.gateway) cookie.now (decode_table table.now) }
 {
-    if known::is_unknown(query.service, service) {
+    if known::is_unknown(query.service.spelling, service) {
         return Way::Unknown;
     }
     if query.renew {
@@ -35,6 +38,7 @@ fn way_of(table: &[u8], query: LoginQuery<'_>, service: &[u8], cookie: &[u8]) ->
 }
 
 // A live session and no renew: a ticket of mark 0, since nothing was signed now.
+#[tactic(auto, using(issue::proofs::Laws::none_given), unfolding(protocol::specs::Steps::signed_on))]
 fn signed_on(
     table: &mut [u8],
     s: usize,
@@ -56,13 +60,14 @@ fn signed_on(
 }
 
 // A request that is not malformed, by the way that it goes. Where the service is unknown it is not looked at.
+#[tactic(auto, using(crate::proofs::Laws::get_known), unfolding(protocol::specs::Steps::taken))]
 fn get_given(table: &mut [u8], query: LoginQuery<'_>, brings: Brings<'_>, out: &mut [u8]) -> Outcome
-    requires { (Lent table.old brings.register.now brings.random.now out.old) × (Short 200 query.service) }
-    ensures { Done (login_get (Given (asking (text_of query.entry.service) query.entry.renew query.entry.gateway))
+    requires { Lent table.old brings.register.now brings.random.now out.old }
+    ensures { Done (login_get (Given (asking (spelled query.entry.service) query.entry.renew query.entry.gateway))
         (brought_by brings.entry.register.now brings.entry.cookie.now brings.entry.random.now false) (decode_table table.old))
         result table.new out.old out.new }
 {
-    let service = known::service_of(brings.register, query.service);
+    let service = known::service_of(brings.register, query.service.spelling);
     match way_of(table, query, service, brings.cookie) {
         Way::Unknown => reply::say_page(out, 403),
         Way::SignedOn(s) => signed_on(table, s, service, brings.random, out),
@@ -71,6 +76,7 @@ fn get_given(table: &mut [u8], query: LoginQuery<'_>, brings: Brings<'_>, out: &
     }
 }
 
+#[tactic(auto, unfolding(protocol::specs::Steps::login_get))]
 pub fn get(table: &mut [u8], q: &[u8], brings: Brings<'_>, out: &mut [u8]) -> Outcome
     requires { Lent table.old brings.register.now brings.random.now out.old }
     ensures { Done (login_get (asked q.now)

@@ -6,7 +6,7 @@ use Rattle.protocol.specs.Table.{decode_table}
 use Rattle.protocol.specs.Request.{Posted}
 use Rattle.protocol.specs.Steps.{remove, slot_named}
 use Rattle.protocol.specs.Held.{Fine, Holds}
-use Rattle.request.specs.Value.{text_of}
+use Rattle.request.specs.Value.{spelled}
 use Rattle.request.specs.declared.LoginBody.{LoginBody}
 
 -- credentials are judged by whether the login ticket's slot is 0, which is none: 1 stands for any other
@@ -26,4 +26,4 @@ pub record Supplied (b o c : List ℕ) : Type 0 where
 
 -- what a body posts
 abbrev pub posted_by : LoginBody → Posted
-posted_by p = record { service = text_of p.service; username = text_of p.username; password = text_of p.password; lt = text_of p.lt }
+posted_by p = record { service = spelled p.service; username = spelled p.username; password = spelled p.password; lt = spelled p.lt }

@@ -4,18 +4,19 @@
 
 ghost use Rattle.std.specs.Prelude.{◌≡◌, ◌≤◌, length};
 ghost use Rattle.protocol.specs.Table.{decode_table};
-ghost use Rattle.protocol.specs.Steps.{failed, ticket_slot, grant_or_tell, is_plain, accept_ticket};
+ghost use Rattle.protocol.specs.Steps.{failed, grant_or_tell, is_plain, accept_ticket};
 ghost use Rattle.protocol.specs.Held.{Fine, In, Said, Does, Lent, bringing, Within, Spendable};
-ghost use Rattle.table_find.specs.Searches.{found_at};
-ghost use Rattle.request.specs.Value.{text_of, Short};
+ghost use Rattle.request.specs.Value.{text_of, spelled};
 ghost use Rattle.xml.specs.Codes.{code_of};
 ghost use Rattle.present.specs.Presented.{Stands, grants_to, burnt, spent, shown};
 
 use protocol::{Brings, Outcome, Ruling, Validator};
-use request::{ValidatorQuery, Value};
+use request::{Spelling, ValidatorQuery};
+use table_edit::NewRecord;
 use xml::Code;
 
 // What an accepted ticket leaves to be told of: its session, where its proxies start, 0 for none, and its mark.
+// `Ruling::Accepted` has the three apart, as the meaning's `ruling_of` has, which may not change; from there on they go together.
 #[derive(Clone, Copy)]
 struct Accepted {
     session: u16,
@@ -35,7 +36,8 @@ pub fn fail(validator: Validator, code: Code, out: &mut [u8]) -> Outcome
 }
 
 // Is a grant made below a parent, for a service that has this callback?
-fn may_grant(table: &[u8], parent: usize, callback: &[u8], url: Value<'_>) -> bool
+#[tactic(auto, using(issue::proofs::Laws::none_given, crate::proofs::Laws::one_deeper), unfolding(crate::specs::Presented::grants_to))]
+fn may_grant(table: &[u8], parent: usize, callback: &[u8], url: Spelling<'_>) -> bool
     requires { (Fine table.now) × (Within parent table.now) }
     ensures { result ≡ grants_to parent callback.now (text_of url.entry) (decode_table table.now) }
 {
@@ -47,6 +49,7 @@ fn may_grant(table: &[u8], parent: usize, callback: &[u8], url: Value<'_>) -> bo
 }
 
 // A waiting grant and its callback, or success without a grant.
+#[tactic(auto, using(crate::proofs::Laws::grant_known))]
 fn grant_or_tell(
     table: &mut [u8],
     accepted: Accepted,
@@ -56,32 +59,23 @@ fn grant_or_tell(
 ) -> Outcome
     requires { (Lent table.old brings.register.now brings.random.now out.old) × (Stands accepted table.old) }
     ensures { Does (grant_or_tell accepted.session accepted.parent accepted.mark
-        (text_of query.entry.service) (text_of query.entry.pgt_url)
+        (spelled query.entry.service) (spelled query.entry.pgt_url)
         (bringing brings.entry.register.now brings.entry.random.now)) result table.old table.new out.old out.new }
 {
-    let parent = accepted.parent as usize;
-    let callback = known::callback_of(brings.register, query.service);
-    if may_grant(table, parent, callback, query.pgt_url) {
-        let depth = table::depth_at(table, parent) + 1;
-        return issue::waiting(
-            table,
-            accepted.mark,
-            accepted.parent,
-            accepted.session,
-            depth,
-            callback,
-            brings.random,
-            out,
-        );
+    let parent = usize::from(accepted.parent);
+    let callback = known::callback_of(brings.register, query.service.spelling);
+    if may_grant(table, parent, callback, query.pgt_url.spelling) {
+        let new = NewRecord {
+            mark: accepted.mark,
+            parent: accepted.parent,
+            session: accepted.session,
+            depth: table::depth_at(table, parent) + 1,
+            text: callback,
+        };
+        return issue::waiting(table, new, brings.random, out);
     }
-    success::say_success(
-        table,
-        accepted.session as usize,
-        accepted.mark,
-        b"",
-        parent,
-        out,
-    )
+    let session = usize::from(accepted.session);
+    success::say_success(table, session, accepted.mark, b"", parent, out)
 }
 
 // Only /cas/validate answers with a word.
@@ -92,6 +86,7 @@ fn is_plain(validator: Validator) -> bool
 }
 
 // A ticket accepted, which can no longer be presented.
+#[tactic(auto, unfolding(protocol::specs::Steps::accept_ticket))]
 fn accept(
     table: &mut [u8],
     validator: Validator,
@@ -102,7 +97,7 @@ fn accept(
 ) -> Outcome
     requires { (Lent table.old brings.register.now brings.random.now out.old) × (Stands accepted table.old) }
     ensures { Does (accept_ticket validator accepted.session accepted.parent accepted.mark
-        (text_of query.entry.service) (text_of query.entry.pgt_url)
+        (spelled query.entry.service) (spelled query.entry.pgt_url)
         (bringing brings.entry.register.now brings.entry.random.now)) result table.old table.new out.old out.new }
 {
     if is_plain(validator) {
@@ -121,6 +116,7 @@ fn burn(table: &mut [u8], slot: usize, validator: Validator, code: Code, out: &m
 }
 
 // The ticket in a slot is judged and spent, whatever is then said of it.
+#[tactic(auto, unfolding(protocol::specs::Steps::ruled))]
 fn spend(
     table: &mut [u8],
     validator: Validator,
@@ -130,10 +126,10 @@ fn spend(
     out: &mut [u8],
 ) -> Outcome
     requires { (Lent table.old brings.register.now brings.random.now out.old) × (Spendable slot table.old) }
-    ensures { Does (spent validator slot query.entry.renew (text_of query.entry.service) (text_of query.entry.pgt_url)
+    ensures { Does (spent validator slot query.entry.renew (spelled query.entry.service) (spelled query.entry.pgt_url)
         (bringing brings.entry.register.now brings.entry.random.now)) result table.old table.new out.old out.new }
 {
-    match ruling::ruling_of(table, slot, validator, query.renew, query.service) {
+    match ruling::ruling_of(table, slot, validator, query.renew, query.service.spelling) {
         Ruling::NoTicket => burn(table, slot, validator, Code::InvalidTicket, out),
         Ruling::NoService => burn(table, slot, validator, Code::InvalidService, out),
         Ruling::Accepted {
@@ -152,17 +148,10 @@ fn spend(
     }
 }
 
-// The live service or proxy ticket that a value names.
-fn find_given(table: &[u8], ticket: Value<'_>) -> Option<usize>
-    requires { (Fine table.now) × (Short 64 ticket) }
-    ensures { result ≡ found_at (ticket_slot (text_of ticket.entry) (decode_table table.now)) }
-{
-    let mut text = [0u8; 64];
-    let n = ticket.read(&mut text);
-    table_find::find_ticket(table, &text[..n])
-}
-
 // A ticket presented for a service, with a callback or an empty one, by what a request names.
+// Not inlined: its texts would stand on the stack of every way of a request.
+#[inline(never)]
+#[tactic(auto, using(table_find::proofs::Laws::found_none), unfolding(protocol::specs::Steps::presented))]
 pub fn show(
     table: &mut [u8],
     validator: Validator,
@@ -170,12 +159,13 @@ pub fn show(
     brings: Brings<'_>,
     out: &mut [u8],
 ) -> Outcome
-    requires { (Lent table.old brings.register.now brings.random.now out.old) × (Short 64 query.ticket) }
-    ensures { Does (shown validator (text_of query.entry.ticket) query.entry.renew (text_of query.entry.service)
-        (text_of query.entry.pgt_url) (bringing brings.entry.register.now brings.entry.random.now))
+    requires { Lent table.old brings.register.now brings.random.now out.old }
+    ensures { Does (shown validator (spelled query.entry.ticket) query.entry.renew (spelled query.entry.service)
+        (spelled query.entry.pgt_url) (bringing brings.entry.register.now brings.entry.random.now))
         result table.old table.new out.old out.new }
 {
-    match find_given(table, query.ticket) {
+    let name = query.ticket.name();
+    match table_find::find_ticket(table, name.text()) {
         Some(slot) => spend(table, validator, slot, query, brings, out),
         None => fail(validator, Code::InvalidTicket, out),
     }

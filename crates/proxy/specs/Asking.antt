@@ -1,13 +1,11 @@
 -- Proxy once its request is read: protocol's step from there on.
-use Rattle.std.specs.Prelude.{List, ℕ, ◌≤◌}
+use Rattle.std.specs.Prelude.{List, ℕ}
 use Rattle.protocol.specs.Bytes.{if, is_empty}
 use Rattle.protocol.specs.Tickets.{a_grant}
 use Rattle.protocol.specs.Table.{Table, decode_table, rec_at}
 use Rattle.protocol.specs.Answers.{ProxyFailure, UnauthorizedService, InternalError}
 use Rattle.protocol.specs.Steps.{Brought, Step, step, slot_named, room_for, new_proxy, proxy_with, proxy_by}
 use Rattle.protocol.specs.Held.{In}
-use Rattle.request.specs.Value.{Short}
-use Rattle.request.specs.declared.ProxyQuery.{ProxyQuery}
 
 -- k is the slot of a grant, and so is its session a slot
 pub record Live (k : ℕ) (table : List ℕ) : Type 0 where
@@ -26,9 +24,3 @@ proxy_under k known random t =
 -- by the grant's text
 unfoldable pub proxy_for : List ℕ → List ℕ → Brought → Table → Step
 proxy_for pgt target g t = proxy_by (slot_named a_grant pgt t) target g t
-
--- the values of a request that is not malformed are no longer than they may be, and the target is not absent
-pub record Values (w : ProxyQuery) : Type 0 where
-  pub pgt : Short 64 w.pgt
-  pub target : Short 200 w.target
-  pub some : 1 ≤ w.target.length

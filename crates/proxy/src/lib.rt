@@ -1,23 +1,22 @@
 // Proxy: a grant asks for a ticket to a registered service.
 #![tactic(auto)]
 
-ghost use Rattle.std.specs.Prelude.{◌≡◌};
-ghost use Rattle.protocol.specs.Tickets.{a_grant};
+ghost use Rattle.std.specs.Prelude.{◌≤◌};
 ghost use Rattle.protocol.specs.Table.{decode_table};
 ghost use Rattle.protocol.specs.Request.{wanted};
-ghost use Rattle.protocol.specs.Steps.{slot_named, proxy};
-ghost use Rattle.protocol.specs.Held.{Fine, Done, Lent, bringing};
-ghost use Rattle.table_find.specs.Searches.{found_at};
-ghost use Rattle.request.specs.Value.{text_of, Short};
+ghost use Rattle.protocol.specs.Steps.{proxy};
+ghost use Rattle.protocol.specs.Held.{Done, Lent, bringing};
+ghost use Rattle.request.specs.Value.{spelled};
 ghost use Rattle.issue.specs.Offers.{Offer};
-ghost use Rattle.proxy.specs.Asking.{proxy_under, proxy_for, Live, Values};
+ghost use Rattle.proxy.specs.Asking.{proxy_under, proxy_for, Live};
 
 use protocol::{Brings, Outcome};
-use request::{ProxyQuery, Value};
+use request::ProxyQuery;
 use ticket::Kind;
 use xml::Code;
 
 // Under the live grant in slot k. An empty target is one that is not registered.
+#[tactic(auto, using(issue::proofs::Laws::none_given), unfolding(crate::specs::Asking::proxy_under))]
 fn under(table: &mut [u8], k: usize, target: &[u8], random: &[u8; 48], out: &mut [u8]) -> Outcome
     requires { (Offer table.old target.now out.old) × (Live k table.old) }
     ensures { Done (proxy_under k target.now random.now (decode_table table.old)) result
@@ -32,32 +31,27 @@ fn under(table: &mut [u8], k: usize, target: &[u8], random: &[u8; 48], out: &mut
     }
 }
 
-// The live grant that a value names: its text is decoded.
-fn find_given(table: &[u8], pgt: Value<'_>) -> Option<usize>
-    requires { (Fine table.now) × (Short 64 pgt) }
-    ensures { result ≡ found_at (slot_named a_grant (text_of pgt.entry) (decode_table table.now)) }
-{
-    let mut text = [0u8; 64];
-    let n = pgt.read(&mut text);
-    table_find::find_named(table, Kind::Grant, &text[..n])
-}
-
-// The target is compared where it lies.
+// By the live grant of the text that pgt spells. The target, which is not absent, is compared where it lies.
+// Not inlined: its texts would stand on the stack of every way of a request.
+#[inline(never)]
+#[tactic(auto, using(table_find::proofs::Laws::found_is, table_find::proofs::Laws::found_low, table_find::proofs::Laws::found_none, crate::proofs::Laws::proxy_none, crate::proofs::Laws::proxy_known), unfolding(crate::specs::Asking::proxy_for))]
 fn ask(table: &mut [u8], query: ProxyQuery<'_>, brings: Brings<'_>, out: &mut [u8]) -> Outcome
-    requires { (Lent table.old brings.register.now brings.random.now out.old) × (Values query) }
-    ensures { Done (proxy_for (text_of query.entry.pgt) (text_of query.entry.target)
+    requires { (Lent table.old brings.register.now brings.random.now out.old) × (1 ≤ query.target.spelling.length) }
+    ensures { Done (proxy_for (spelled query.entry.pgt) (spelled query.entry.target)
         (bringing brings.entry.register.now brings.entry.random.now) (decode_table table.old)) result table.new
         out.old out.new }
 {
-    match find_given(table, query.pgt) {
+    let name = query.pgt.name();
+    match table_find::find_named(table, Kind::Grant, name.text()) {
         Some(k) => {
-            let target = known::service_of(brings.register, query.target);
+            let target = known::service_of(brings.register, query.target.spelling);
             under(table, k, target, brings.random, out)
         }
         None => reply::say_proxy_failure(out, Code::BadPgt),
     }
 }
 
+#[tactic(auto, using(issue::proofs::Laws::none_given), unfolding(protocol::specs::Steps::proxy, crate::specs::Asking::proxy_for))]
 pub fn proxy(table: &mut [u8], q: &[u8], brings: Brings<'_>, out: &mut [u8]) -> Outcome
     requires { Lent table.old brings.register.now brings.random.now out.old }
     ensures { Done (proxy (wanted q.now) (bringing brings.entry.register.now brings.entry.random.now)
@@ -66,7 +60,7 @@ pub fn proxy(table: &mut [u8], q: &[u8], brings: Brings<'_>, out: &mut [u8]) -> 
     let Some(query) = request::proxy_query(q) else {
         return reply::say_proxy_failure(out, Code::InvalidRequest);
     };
-    if query.pgt.is_absent() | query.target.is_absent() {
+    if query.pgt.spelling.is_absent() | query.target.spelling.is_absent() {
         return reply::say_proxy_failure(out, Code::InvalidRequest);
     }
     ask(table, query, brings, out)

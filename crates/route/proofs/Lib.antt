@@ -1,3 +1,2 @@
--- What each path's step reads, and that the dispatch is the protocol's.
+-- What each path's step reads.
 pub mod Unread
-pub mod Laws

@@ -16,6 +16,7 @@ const NOT_FOUND: u32 = 404;
 const NOT_TAKEN: u32 = 405;
 
 // GET reads the query.
+#[tactic(auto, using(crate::proofs::Unread::logout_reads, crate::proofs::Unread::proxy_reads, validate::proofs::Laws::unread), unfolding(protocol::specs::Steps::request_step))]
 fn by_get(table: &mut [u8], path: Path, q: &[u8], brings: Brings<'_>, out: &mut [u8]) -> Outcome
     requires { Lent table.old brings.register.now brings.random.now out.old }
     ensures { Done (request_step (get_request path q.now)
@@ -32,6 +33,7 @@ fn by_get(table: &mut [u8], path: Path, q: &[u8], brings: Brings<'_>, out: &mut 
 }
 
 // POST reads the body, and only login takes it.
+#[tactic(auto, unfolding(protocol::specs::Steps::request_step, protocol::specs::Bytes::spliced))]
 fn by_post(
     table: &mut [u8],
     path: Path,
@@ -52,6 +54,7 @@ fn by_post(
     }
 }
 
+#[tactic(auto, using(crate::proofs::Unread::get_reads), unfolding(protocol::specs::Request::request_of, protocol::specs::Bytes::spliced))]
 pub fn request(
     table: &mut [u8],
     method: Method,

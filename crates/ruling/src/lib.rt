@@ -7,7 +7,7 @@ ghost use Rattle.protocol.specs.Held.{Fine, In, said_at};
 ghost use Rattle.request.specs.Value.{text_of};
 
 use protocol::{Ruling, Validator};
-use request::Value;
+use request::Spelling;
 use ticket::Kind;
 
 // Only proxyValidate takes proxy tickets.
@@ -29,12 +29,13 @@ fn proxy_parent(table: &[u8], slot: usize) -> u16
 }
 
 // The ticket in a slot, for a service: a proxy ticket where none is taken, then renew without the mark, then another service.
+#[tactic(auto, using(request::proofs::Laws::same_either), unfolding(protocol::specs::Steps::ruling_of))]
 pub fn ruling_of(
     table: &[u8],
     slot: usize,
     validator: Validator,
     renew: bool,
-    service: Value<'_>,
+    service: Spelling<'_>,
 ) -> Ruling
     requires { (Fine table.now) × (In slot table.now) }
     ensures { result ≡ ruling_of validator renew (text_of service.entry) (said_at slot table.now) }

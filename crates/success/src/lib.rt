@@ -8,7 +8,7 @@ ghost use Rattle.protocol.specs.Written.{Room, Wrote};
 ghost use Rattle.protocol.specs.Held.{Lawful, Within, Said};
 ghost use Rattle.success.specs.Walk.{Walk, Told};
 
-use protocol::{Answer, Outcome};
+use protocol::{Answer, Outcome, Time};
 
 // The lines of the proxies from the grant in `slot` on, `depth` of them.
 // Document 01 names this form: a recursive walk over parent slots, with the depth as the falling number.
@@ -21,7 +21,7 @@ pub fn put_chain(table: &[u8], slot: usize, depth: u8, out: &mut [u8], at: usize
     }
     let callback = table::text_of(table, slot);
     let next = xml::put_proxy(out, at, callback);
-    let parent = table::parent_of(table, slot) as usize;
+    let parent = usize::from(table::parent_of(table, slot));
     put_chain(table, parent, depth - 1, out, next)
 }
 
@@ -54,7 +54,9 @@ pub fn say_success(
         result out.old out.new }
 {
     let user = table::text_of(table, session);
-    let since = table::since_of(table, session);
+    let since = Time {
+        seconds: table::since_of(table, session),
+    };
     let head = xml::put_success_head(out, user, since, mark, iou);
     let to = put_proxies(table, parent, out, head);
     let n = xml::put_success_tail(out, to);

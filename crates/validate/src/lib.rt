@@ -10,6 +10,7 @@ ghost use Rattle.protocol.specs.Held.{Done, Lent, bringing};
 use protocol::{Brings, Outcome, Validator};
 use xml::Code;
 
+#[tactic(auto, using(protocol::proofs::Searches::empty), unfolding(protocol::specs::Steps::validate))]
 pub fn validate(
     table: &mut [u8],
     validator: Validator,
@@ -25,7 +26,7 @@ pub fn validate(
     let Some(query) = request::validator_query(validator, q) else {
         return present::fail(validator, Code::InvalidRequest, out);
     };
-    if query.service.is_absent() | query.ticket.is_absent() {
+    if query.service.spelling.is_absent() | query.ticket.spelling.is_absent() {
         return present::fail(validator, Code::InvalidRequest, out);
     }
     present::show(table, validator, query, brings, out)

@@ -1,0 +1,2 @@
+-- What the contracts of login, GET, are said in.
+pub mod Going

@@ -1,2 +1,0 @@
--- What logout's functions give each other.
-pub mod Laws

@@ -1,2 +1,0 @@
--- Laws of the ruling.
-pub mod Laws
