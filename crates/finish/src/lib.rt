@@ -12,30 +12,32 @@ use ticket::Kind;
 use xml::Code;
 
 // Success of the waiting grant in a slot: its session's user, by the mark that it keeps, an IOU if it is not empty, and the proxies from its parent on.
+#[tactic(auto, using(crate::proofs::Laws::waits_session, success::proofs::Links::parent_within))]
 fn tell(table: &[u8], slot: usize, iou: &[u8], out: &mut [u8]) -> Outcome
     requires { (Waits slot table.now) × (length iou.now ≤ 64) × (8192 ≤ length out.old) }
     ensures { Said (told_of (said_at slot table.now) iou.now (decode_table table.now).slots)
         result out.old out.new }
 {
-    let session = table::session_of(table, slot) as usize;
-    let parent = table::parent_of(table, slot) as usize;
+    let session = usize::from(table::session_of(table, slot));
+    let parent = usize::from(table::parent_of(table, slot));
     let mark = table::mark_of(table, slot);
     success::say_success(table, session, mark, iou, parent, out)
 }
 
 // Yes: told with the IOU's text, then a grant.
+#[tactic(auto, using(crate::proofs::Laws::waits_session, crate::proofs::Laws::iou_size, protocol::proofs::Told::said_done), unfolding(protocol::specs::Steps::finished))]
 fn grant(table: &mut [u8], slot: usize, out: &mut [u8]) -> Outcome
     requires { (Waits slot table.old) × (8192 ≤ length out.old) }
     ensures { Does (granted slot) result table.old table.new out.old out.new }
 {
-    let mut iou = [0u8; 64];
-    let n = ticket::put_iou(&mut iou, 0, table::iou_of(table, slot));
-    let told = tell(table, slot, &iou[..n], out);
+    let iou = ticket::iou(table::iou_of(table, slot));
+    let told = tell(table, slot, iou.text(), out);
     table::turn(table, slot, Kind::Grant);
     told
 }
 
 // No: told without IOU, then removed.
+#[tactic(auto, using(protocol::proofs::Told::said_done), unfolding(protocol::specs::Steps::finished))]
 fn remove(table: &mut [u8], slot: usize, out: &mut [u8]) -> Outcome
     requires { (Waits slot table.old) × (8192 ≤ length out.old) }
     ensures { Does (refused slot) result table.old table.new out.old out.new }
@@ -45,6 +47,7 @@ fn remove(table: &mut [u8], slot: usize, out: &mut [u8]) -> Outcome
     told
 }
 
+#[tactic(auto, unfolding(protocol::specs::Steps::finish_at))]
 fn settle(table: &mut [u8], slot: usize, outcome: bool, out: &mut [u8]) -> Outcome
     requires { (Waits slot table.old) × (8192 ≤ length out.old) }
     ensures { Does (settled slot outcome) result table.old table.new out.old out.new }
@@ -57,6 +60,7 @@ fn settle(table: &mut [u8], slot: usize, outcome: bool, out: &mut [u8]) -> Outco
 }
 
 // The outcome of the callback of a serial.
+#[tactic(auto, using(table_find::proofs::Laws::found_none, protocol::proofs::Told::only_said), unfolding(protocol::specs::Steps::finish, protocol::specs::Steps::finish_at))]
 pub fn finish(table: &mut [u8], serial: u32, outcome: bool, out: &mut [u8]) -> Outcome
     requires { (Lawful table.old) × (8192 ≤ length out.old) }
     ensures { Does (finish serial outcome) result table.old table.new out.old out.new }

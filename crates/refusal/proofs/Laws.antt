@@ -1,17 +1,13 @@
 -- A rung of the list: where its test fails its number is answered, else what comes later. Assumes nothing.
 use mathlib.Core.Path.{◌≡◌, sym, ◌∙◌}
 use mathlib.Core.Bool.{Bool, true, false}
-use mathlib.Core.List.{List}
 use Prim.Native.Nat.{ℕ}
-use lib.ListN.{length}
 use Rattle.std.specs.Prelude.{Result}
 use Rattle.std.specs.Result.{IsErrAnd}
-use Rattle.protocol.specs.Table.{table_shape, table_lawful}
-use Rattle.protocol.specs.Calls.{unless, check_of}
+use Rattle.protocol.specs.Calls.{unless}
 use Rattle.protocol.specs.Refusals.{refusal_number, number_of_result}
 use Rattle.protocol.specs.declared.Refusal.{Refusal}
 use Rattle.protocol.proofs.Refusals.{refused_some, handed}
-use Rattle.protocol.proofs.Lasting.{check_passed}
 
 -- a rung that was judged
 module _ (b : Bool) (n later : ℕ) where
@@ -30,16 +26,19 @@ module _ (b : Bool) (n later : ℕ) where
       go false q = absurd (refused_some f (is ∙ sym q))
 
 -- the first two rungs, judged before the others
-module _ (t : List ℕ) (later : ℕ) where
-  pub judged_no : (r : Result Unit Refusal) (e : Refusal) → IsErrAnd r (λ y. y ≡ e) → refusal_number e ≡ check_of t
-      → number_of_result r ≡ unless (table_shape (length t)) 1 (unless (table_lawful t) 2 later)
-  unfolding check_of
-  judged_no r e is h = handed r e is ∙ go (table_shape (length t)) (table_lawful t) h
+module _ (b c : Bool) (n m later : ℕ) where
+  pub judged_no : (r : Result Unit Refusal) (e : Refusal) → IsErrAnd r (λ y. y ≡ e) → refusal_number e ≡ unless b n (unless c m 0) → number_of_result r ≡ unless b n (unless c m later)
+  judged_no r e is h = handed r e is ∙ go b c h
     where
-      go : (s l : Bool) → refusal_number e ≡ unless s 1 (unless l 2 0) → refusal_number e ≡ unless s 1 (unless l 2 later)
-      go false l q = q
+      go : (x y : Bool) → refusal_number e ≡ unless x n (unless y m 0) → refusal_number e ≡ unless x n (unless y m later)
+      go false y q = q
       go true false q = q
       go true true q = absurd (refused_some e q)
 
-  pub judged_yes : {k : ℕ} → 0 ≡ check_of t → k ≡ later → k ≡ unless (table_shape (length t)) 1 (unless (table_lawful t) 2 later)
-  judged_yes z q = let p = check_passed t (sym z) in rw (p.0, p.1) q
+  pub judged_yes : {k : ℕ} (f g : Refusal) → refusal_number f ≡ n → refusal_number g ≡ m → 0 ≡ unless b n (unless c m 0) → k ≡ later → k ≡ unless b n (unless c m later)
+  judged_yes {k} f g is also h l = go b c h
+    where
+      go : (x y : Bool) → 0 ≡ unless x n (unless y m 0) → k ≡ unless x n (unless y m later)
+      go true true q = l
+      go false y q = absurd (refused_some f (is ∙ sym q))
+      go true false q = absurd (refused_some g (also ∙ sym q))

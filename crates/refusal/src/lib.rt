@@ -6,10 +6,7 @@ ghost use Rattle.protocol.specs.Calls.{unless, sizes_right, request_fits, answer
 ghost use Rattle.protocol.specs.Visits.{visit_unless};
 ghost use Rattle.protocol.specs.Refusals.{refusal_number, number_of_result};
 
-use protocol::Refusal;
-
-// The latest time, 2^40 seconds.
-const LAST: u64 = 1099511627776;
+use protocol::{LAST_TIME, Refusal};
 
 // A rung of the list: refused where its test fails.
 fn unless(right: bool, refusal: Refusal) -> Result<(), Refusal>
@@ -43,6 +40,7 @@ impl Sizes {
 }
 
 // Check: 1, 2, which begin the list of every call that reads a table.
+#[tactic(auto, using(crate::proofs::Laws::rung_no, crate::proofs::Laws::rung_yes), unfolding(protocol::specs::Calls::check_of))]
 pub fn of_check(table: &[u8]) -> Result<(), Refusal>
     ensures { number_of_result result ≡ check_of table.now }
 {
@@ -51,6 +49,7 @@ pub fn of_check(table: &[u8]) -> Result<(), Refusal>
 }
 
 // Answer: 1 to 6.
+#[tactic(auto, using(crate::proofs::Laws::judged_no, crate::proofs::Laws::judged_yes, crate::proofs::Laws::rung_no, crate::proofs::Laws::rung_yes), unfolding(protocol::specs::Calls::check_of, protocol::specs::Calls::answer_refusal))]
 pub fn of_answer(table: &[u8], register: &[u8], time: u64, sizes: Sizes) -> Result<(), Refusal>
     ensures { number_of_result result
         ≡ answer_refusal table.now register.now sizes.target sizes.body time sizes.random sizes.out sizes.cookie_out }
@@ -59,39 +58,43 @@ pub fn of_answer(table: &[u8], register: &[u8], time: u64, sizes: Sizes) -> Resu
     unless(register::register_lawful(register), Refusal::Register)?;
     unless(sizes.right(), Refusal::Sizes)?;
     unless(sizes.request_fits(), Refusal::TooLong)?;
-    unless(time <= LAST, Refusal::Time)
+    unless(time <= LAST_TIME, Refusal::Time)
 }
 
 // Finish: 1, 2, 4 for the output only, 6.
+#[tactic(auto, using(crate::proofs::Laws::judged_no, crate::proofs::Laws::judged_yes, crate::proofs::Laws::rung_no, crate::proofs::Laws::rung_yes), unfolding(protocol::specs::Calls::check_of, protocol::specs::Calls::finish_refusal))]
 pub fn of_finish(table: &[u8], time: u64, out: usize) -> Result<(), Refusal>
     ensures { number_of_result result ≡ finish_refusal table.now time out }
 {
     of_check(table)?;
     unless(8192 <= out, Refusal::Sizes)?;
-    unless(time <= LAST, Refusal::Time)
+    unless(time <= LAST_TIME, Refusal::Time)
 }
 
 // A visit: 1, 2, 4 for the output and the random input, 6. That there is none of its number is told later.
+#[tactic(auto, using(crate::proofs::Laws::judged_no, crate::proofs::Laws::judged_yes, crate::proofs::Laws::rung_no, crate::proofs::Laws::rung_yes), unfolding(protocol::specs::Calls::check_of))]
 pub fn of_visit(table: &[u8], time: u64, random: usize, out: usize) -> Result<(), Refusal>
     ensures { number_of_result result ≡ visit_unless table.now time random out 0 }
 {
     of_check(table)?;
     unless((8192 <= out) & (random == 48), Refusal::Sizes)?;
-    unless(time <= LAST, Refusal::Time)
+    unless(time <= LAST_TIME, Refusal::Time)
 }
 
 // Housekeeping: 1, 2, 6.
+#[tactic(auto, using(crate::proofs::Laws::judged_no, crate::proofs::Laws::judged_yes), unfolding(protocol::specs::Calls::check_of, protocol::specs::Calls::housekeep_refusal))]
 pub fn of_housekeep(table: &[u8], time: u64) -> Result<(), Refusal>
     ensures { number_of_result result ≡ housekeep_refusal table.now time }
 {
     of_check(table)?;
-    unless(time <= LAST, Refusal::Time)
+    unless(time <= LAST_TIME, Refusal::Time)
 }
 
 // Format: 1, 6.
+#[tactic(auto, using(crate::proofs::Laws::rung_no, crate::proofs::Laws::rung_yes), unfolding(protocol::specs::Calls::format_refusal))]
 pub fn of_format(size: usize, time: u64) -> Result<(), Refusal>
     ensures { number_of_result result ≡ format_refusal size time }
 {
     unless(table_judge::shape_right(size), Refusal::TableShape)?;
-    unless(time <= LAST, Refusal::Time)
+    unless(time <= LAST_TIME, Refusal::Time)
 }

@@ -2,19 +2,15 @@
 use mathlib.Core.Path.{◌≡◌, refl, sym, ap, ◌∙◌}
 use mathlib.Core.Bool.{Bool, true, false, ◌&&◌}
 use mathlib.Core.List.{List, []}
-use Prim.Native.Nat.{ℕ, ◌-◌, ◌/◌, ◌≤◌}
+use Prim.Native.Nat.{ℕ, ◌≤◌}
 use native.Mathlib.Omega.{arith}
-use borrow.Author.Tests.{ne_eqb, eqb-true, leb-true}
+use borrow.Author.Tests.{eqb-true, leb-true}
 use lib.Dec.{eqb, leb}
 use lib.ListN.{length}
-use Rattle.std.specs.Prelude.{Result}
-use Rattle.std.specs.Result.{IsErrAnd}
-use Rattle.protocol.specs.declared.Refusal.{Refusal}
-use Rattle.protocol.specs.Refusals.{refusal_number, number_of_result}
-use Rattle.protocol.specs.Table.{encode_table, decode_table, table_shape, table_lawful, last_time, formatted}
+use Rattle.protocol.specs.Table.{decode_table, table_shape, table_lawful, last_time}
 use Rattle.protocol.specs.Request.{request_of}
-use Rattle.protocol.specs.Steps.{tick, clear, request_step, finish}
-use Rattle.protocol.specs.Calls.{inputs, result_of, refused_outcome, answer_refusal, step_of, answer_of, numbered, format_refusal, format_of, housekeep_refusal, housekeep_of, finish_refusal, finish_of, brought_by}
+use Rattle.protocol.specs.Steps.{tick, request_step, finish}
+use Rattle.protocol.specs.Calls.{inputs, result_of, answer_refusal, step_of, answer_of, format_refusal, housekeep_refusal, finish_refusal, finish_of, brought_by}
 use Rattle.protocol.specs.Visits.{visit_unless}
 use Rattle.protocol.specs.Held.{Fine, Holds, Lawful, Done, Did, Lent}
 use Rattle.protocol.specs.declared.Method.{Method}
@@ -25,8 +21,7 @@ use Rattle.protocol.proofs.Sound.{sound_lawful, tick_sound}
 use Rattle.protocol.proofs.Held.{sound_held, holds_bytes}
 use Rattle.protocol.proofs.Told.{done_did, did_delivered}
 use Rattle.protocol.proofs.Lasting.{passes, Passed}
-use Rattle.protocol.proofs.Top.{top_refused, top_passed}
-use Rattle.protocol.proofs.Refusals.{refused_some, handed}
+use Rattle.protocol.proofs.Top.{top_passed}
 use Rattle.table_judge.proofs.Worth.{shaped, lawful_law}
 use Rattle.table_edit.specs.Edits.{Shape}
 
@@ -37,88 +32,60 @@ clock_lawful b {b'} n l h k =
     record { fine = k.fine; rules = lawful_rules b' e }
 
 -- format
-module _ (t : List ℕ) (n : ℕ) where
-  pub format_refused : (r : Result Unit Refusal) (f : Refusal) → IsErrAnd r (λ y. y ≡ f) → refusal_number f ≡ format_refusal (length t) n → numbered (number_of_result r) t ≡ format_of t n
-  unfolding format_of
-  format_refused r f is h = rw (handed r f is, ← h, ne_eqb (refusal_number f) 0 (refused_some f))
-
-  module _ (e : 0 ≡ format_refusal (length t) n) where
-    pub format_done : {t' : List ℕ} → t' ≡ encode_table (formatted (length t / 512 - 1) n) → numbered 0 t' ≡ format_of t n
-    unfolding format_of
-    format_done k = rw (← e, k)
-
-    pub format_shape : Shape (length t)
-    unfolding format_refusal
-    format_shape =
-        let p = passes (table_shape (length t)) 1 _ (omega arith) (sym e) in
-        let s = shaped (length t) p.0 in
-        record { whole = omega (arith, s.whole); least = s.low; most = s.high }
+module _ (t : List ℕ) (n : ℕ) (e : 0 ≡ format_refusal (length t) n) where
+  pub format_shape : Shape (length t)
+  unfolding format_refusal
+  format_shape =
+      let p = passes (table_shape (length t)) 1 _ (omega arith) (sym e) in
+      let s = shaped (length t) p.0 in
+      record { whole = omega (arith, s.whole); least = s.low; most = s.high }
 
 -- housekeeping
-module _ (t : List ℕ) (n : ℕ) where
-  pub housekeep_refused : (r : Result Unit Refusal) (f : Refusal) → IsErrAnd r (λ y. y ≡ f) → refusal_number f ≡ housekeep_refusal t n → numbered (number_of_result r) t ≡ housekeep_of t n
-  unfolding housekeep_of
-  housekeep_refused r f is h = rw (handed r f is, ← h, ne_eqb (refusal_number f) 0 (refused_some f))
+module _ (t : List ℕ) (n : ℕ) (e : 0 ≡ housekeep_refusal t n) where
+  tidied : (Lawful t) × (n ≤ last_time)
+  unfolding housekeep_refusal
+  tidied =
+      let p1 = passes (table_shape (length t)) 1 _ (omega arith) (sym e) in
+      let p2 = passes (table_lawful t) 2 _ (omega arith) p1.1 in
+      let p6 = passes (leb n last_time) 6 0 (omega arith) p2.1 in
+      (lawful_law t p1.0 p2.0, leb-true n last_time p6.0)
 
-  module _ (e : 0 ≡ housekeep_refusal t n) where
-    pub housekeep_done : {t' : List ℕ} → Holds t' (clear (tick n (decode_table t))) → numbered 0 t' ≡ housekeep_of t n
-    unfolding housekeep_of
-    housekeep_done {t'} k = rw (← e, holds_bytes t' (clear (tick n (decode_table t))) k)
+  pub housekeep_lawful : Lawful t
+  housekeep_lawful = tidied.0
 
-    tidied : (Lawful t) × (n ≤ last_time)
-    unfolding housekeep_refusal
-    tidied =
-        let p1 = passes (table_shape (length t)) 1 _ (omega arith) (sym e) in
-        let p2 = passes (table_lawful t) 2 _ (omega arith) p1.1 in
-        let p6 = passes (leb n last_time) 6 0 (omega arith) p2.1 in
-        (lawful_law t p1.0 p2.0, leb-true n last_time p6.0)
-
-    pub housekeep_lawful : Lawful t
-    housekeep_lawful = tidied.0
-
-    pub housekeep_time : n ≤ last_time
-    housekeep_time = tidied.1
+  pub housekeep_time : n ≤ last_time
+  housekeep_time = tidied.1
 
 -- finish
-module _ (t : List ℕ) (n : ℕ) (o : List ℕ) where
-  pub finish_refused : (s : ℕ) (v : Bool) (f : Refusal) {y : Outcome} → refusal_number f ≡ finish_refusal t n (length o) → y ≡ refused_outcome (refusal_number f) → result_of y t o [] ≡ finish_of t s v n o
+module _ (t : List ℕ) (n : ℕ) (o : List ℕ) (e : 0 ≡ finish_refusal t n (length o)) where
+  seen : (Lawful t) × (8192 ≤ length o) × (n ≤ last_time)
+  unfolding finish_refusal
+  seen =
+      let p1 = passes (table_shape (length t)) 1 _ (omega arith) (sym e) in
+      let p2 = passes (table_lawful t) 2 _ (omega arith) p1.1 in
+      let p4 = passes (leb 8192 (length o)) 4 _ (omega arith) p2.1 in
+      let p6 = passes (leb n last_time) 6 0 (omega arith) p4.1 in
+      (lawful_law t p1.0 p2.0, leb-true 8192 (length o) p4.0, leb-true n last_time p6.0)
+
+  pub finish_lawful : Lawful t
+  finish_lawful = seen.0
+
+  pub finish_room : 8192 ≤ length o
+  finish_room = seen.1
+
+  pub finish_time : n ≤ last_time
+  finish_time = seen.2
+
+  pub finish_started : {b : List ℕ} → Holds b (tick n (decode_table t)) → Lawful b
+  finish_started k = clock_lawful t n finish_lawful finish_time k
+
+  pub finish_done : (s : ℕ) (v : Bool) {b t' o' : List ℕ} {y : Outcome} → Holds b (tick n (decode_table t)) → Done (finish s v (decode_table b)) y t' o o'
+      → result_of y t' o' [] ≡ finish_of t s v n o
   unfolding finish_of
-  finish_refused s v f h q = rw (q, ← h, ne_eqb (refusal_number f) 0 (refused_some f))
-
-  module _ (e : 0 ≡ finish_refusal t n (length o)) where
-    seen : (Lawful t) × (8192 ≤ length o) × (n ≤ last_time)
-    unfolding finish_refusal
-    seen =
-        let p1 = passes (table_shape (length t)) 1 _ (omega arith) (sym e) in
-        let p2 = passes (table_lawful t) 2 _ (omega arith) p1.1 in
-        let p4 = passes (leb 8192 (length o)) 4 _ (omega arith) p2.1 in
-        let p6 = passes (leb n last_time) 6 0 (omega arith) p4.1 in
-        (lawful_law t p1.0 p2.0, leb-true 8192 (length o) p4.0, leb-true n last_time p6.0)
-
-    pub finish_lawful : Lawful t
-    finish_lawful = seen.0
-
-    pub finish_room : 8192 ≤ length o
-    finish_room = seen.1
-
-    pub finish_time : n ≤ last_time
-    finish_time = seen.2
-
-    pub finish_started : {b : List ℕ} → Holds b (tick n (decode_table t)) → Lawful b
-    finish_started k = clock_lawful t n finish_lawful finish_time k
-
-    pub finish_done : (s : ℕ) (v : Bool) {b t' o' : List ℕ} {y : Outcome} → Holds b (tick n (decode_table t)) → Done (finish s v (decode_table b)) y t' o o'
-        → result_of y t' o' [] ≡ finish_of t s v n o
-    unfolding finish_of
-    finish_done s v {b} {t'} {o'} {y} k d =
-        did_delivered (done_did [] d) ∙ rw (k.is, ← e)
+  finish_done s v {b} {t'} {o'} {y} k d =
+      did_delivered (done_did [] d) ∙ rw (k.is, ← e)
 
 -- answer: no refusal reads the method, the cookie or the verdict, so any will do for what an answered call knows
-module _ (t g u b : List ℕ) (n : ℕ) (d o c : List ℕ) where
-  pub answer_refused : (m : Method) (k : List ℕ) (v : Bool) (f : Refusal) {y : Outcome} → refusal_number f ≡ answer_refusal t g (length u) (length b) n (length d) (length o) (length c)
-      → y ≡ refused_outcome (refusal_number f) → result_of y t o c ≡ answer_of (inputs t g m u b k n d v o c)
-  answer_refused m k v f h q = top_refused t g m u b k n d v o c h (refused_some f) q
-
 module _ (t g u b : List ℕ) (n : ℕ) (d o c : List ℕ) (e : 0 ≡ answer_refusal t g (length u) (length b) n (length d) (length o) (length c)) where
   told : Passed (inputs t g method.Get u b [] n d false o c)
   told = top_passed t g method.Get u b [] n d false o c e refl

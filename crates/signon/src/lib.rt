@@ -9,7 +9,7 @@ ghost use Rattle.protocol.specs.Refusals.{refusal_number, number_of_result};
 ghost use Rattle.protocol.specs.Visits.{visit_read, visit_of};
 ghost use Rattle.protocol.specs.Panels.{made, panel_of, fault_of};
 
-use protocol::{Answer, Brings, Fault, Form, Method, Outcome, Refusal, Visit};
+use protocol::{Answer, Brings, Fault, Form, Method, Outcome, Refusal, Time, Visit};
 use refusal::Sizes;
 
 // A refused call's result: its number, all else 0.
@@ -36,6 +36,7 @@ fn drawn<'a>(random: &'a [u8]) -> &'a [u8; 48]
 }
 
 // A fresh table, whatever the bytes were.
+#[tactic(auto, using(crate::proofs::Laws::format_shape, protocol::proofs::Refusals::handed, protocol::proofs::Refusals::refused_some), unfolding(protocol::specs::Calls::format_of))]
 pub fn format(table: &mut [u8], time: u64) -> Result<(), Refusal>
     ensures { numbered (number_of_result result) table.new ≡ format_of table.old time }
 {
@@ -45,11 +46,12 @@ pub fn format(table: &mut [u8], time: u64) -> Result<(), Refusal>
 }
 
 // The clock moved, and every record that is dead by then freed.
+#[tactic(auto, using(crate::proofs::Laws::housekeep_lawful, crate::proofs::Laws::housekeep_time, protocol::proofs::Refusals::handed, protocol::proofs::Refusals::refused_some, protocol::proofs::Held::holds_bytes), unfolding(protocol::specs::Calls::housekeep_of))]
 pub fn housekeep(table: &mut [u8], time: u64) -> Result<(), Refusal>
     ensures { numbered (number_of_result result) table.new ≡ housekeep_of table.old time }
 {
     refusal::of_housekeep(table, time)?;
-    table_edit::housekeep(table, time);
+    table_edit::housekeep(table, Time { seconds: time });
     Ok(())
 }
 
@@ -69,6 +71,7 @@ pub fn read_form(body: &[u8], username: &mut [u8], password: &mut [u8]) -> Form
 
 // A request, its cookie and the host's verdict on a password: the answer into `out`, a new session's cookie into `cookie_out`.
 // Each parameter by itself: the nine calls, which `export` and `export_c` hand out to C, may not change.
+#[tactic(auto, using(crate::proofs::Laws::answer_lawful, crate::proofs::Laws::answer_time, crate::proofs::Laws::answer_drawn, protocol::proofs::Refusals::refused_some), unfolding(protocol::specs::Calls::answer_of))]
 pub fn answer(
     table: &mut [u8],
     register: &[u8],
@@ -96,7 +99,7 @@ pub fn answer(
     if let Err(refusal) = refusal::of_answer(table, register, time, sizes) {
         return refused(refusal);
     }
-    table_edit::tick(table, time); // what is dead by then stays in its slot
+    table_edit::tick(table, Time { seconds: time }); // what is dead by then stays in its slot
     let brings = Brings {
         register,
         cookie,
@@ -107,17 +110,19 @@ pub fn answer(
 }
 
 // The outcome of the callback of a serial, yes only after a good certificate and a 200.
+#[tactic(auto, using(crate::proofs::Laws::finish_lawful, crate::proofs::Laws::finish_room, crate::proofs::Laws::finish_time, crate::proofs::Laws::finish_started, protocol::proofs::Refusals::refused_some), unfolding(protocol::specs::Calls::finish_of))]
 pub fn finish(table: &mut [u8], serial: u32, outcome: bool, time: u64, out: &mut [u8]) -> Outcome
     ensures { result_of result table.new out.new [] ≡ finish_of table.old serial outcome time out.old }
 {
     if let Err(refusal) = refusal::of_finish(table, time, out.len()) {
         return refused(refusal);
     }
-    table_edit::tick(table, time);
+    table_edit::tick(table, Time { seconds: time });
     finish::finish(table, serial, outcome, out)
 }
 
 // What a panel is to be told of sign-off: the visit of a number, from 0, of the cookie's session. The table is only read.
+#[tactic(auto, using(crate::proofs::Laws::visit_fine, crate::proofs::Laws::visit_room, crate::proofs::Laws::visit_drawn, crate::proofs::Laws::visit_time, visit::proofs::Laws::visit_refused_lem, visit::proofs::Laws::visit_told, protocol::proofs::Refusals::refused_some))]
 pub fn visit(
     table: &[u8],
     cookie: &[u8],
@@ -135,7 +140,14 @@ pub fn visit(
             length: 0,
         };
     }
-    visit::tell(table, cookie, number, time, drawn(random), out)
+    visit::tell(
+        table,
+        cookie,
+        number,
+        Time { seconds: time },
+        drawn(random),
+        out,
+    )
 }
 
 // The register block of a service and a callback, check included.

@@ -1,20 +1,21 @@
 -- Visits by their slots, which of them is told, and that the call is so answered. Assumes nothing.
-use mathlib.Core.Path.{◌≡◌, refl, sym, ap, ◌∙◌}
-use mathlib.Core.Bool.{Bool, true, false, ◌&&◌}
+use mathlib.Core.Path.{◌≡◌, refl, sym, ◌∙◌}
+use mathlib.Core.Bool.{Bool, true, false, ◌&&◌, cond}
 use mathlib.Core.List.{List, [], ◌∷◌}
 use Prim.Native.Nat.{ℕ, zero, suc, ◌+◌, ◌-◌, ◌/◌, ◌≤◌, ◌<◌, max}
 use native.Mathlib.Nat.{zero-add}
-use native.Mathlib.Numerals.{sub-one}
+use native.Mathlib.Numerals.{add-one, sub-one}
 use native.Mathlib.Omega.{arith}
-use borrow.Author.Tests.{eq-eqb, ne_eqb, eqb-true, lt-ltb, le-ltb, ltb-true, ltb-false}
+use borrow.Author.Tests.{ne_eqb, eqb-true, lt-ltb, le-ltb, ltb-true, ltb-false}
 use lib.Dec.{eqb, leb, ltb}
 use lib.ListN.{length, drop, get_or, drop_of_length-le}
+use lib.Seq.{drop-cons}
+use Rattle.std.specs.List.{filter, slice_get, range_with_len}
 use Rattle.protocol.specs.Bytes.{if}
 use Rattle.protocol.specs.Records.{Rec, free_rec}
-use Rattle.protocol.specs.Table.{decode_table, rec_at, slot_where, table_shape, table_lawful, last_time}
-use Rattle.protocol.specs.Steps.{tick, is_named, slot_named}
+use Rattle.protocol.specs.Table.{decode_table, rec_at, table_shape, table_lawful, last_time}
 use Rattle.protocol.specs.Written.{Wrote}
-use Rattle.protocol.specs.Held.{In}
+use Rattle.protocol.specs.Held.{In, said_at}
 use Rattle.protocol.specs.Calls.{unless}
 use Rattle.protocol.specs.Visits.{is_visit, visits_in, visits_of, visit_text, visit_unless, visit_refusal, visit_said, VisitRead, visit_read, visit_given, visit_refused, visit_of}
 use Rattle.protocol.proofs.Laws.{both}
@@ -22,52 +23,30 @@ use Rattle.protocol.proofs.Places.{slots_count}
 use Rattle.protocol.proofs.Held.{slot_in}
 use Rattle.std.specs.Prelude.{Option, Some, None}
 use Rattle.table_find.specs.Searches.{found_at}
-use Rattle.table.proofs.Laws.{at_slot, slots_from}
-use Rattle.table_find.proofs.Laws.{found_some, found_zero, found_is, found_low, found_none}
+use Rattle.table.proofs.Laws.{at_slot}
+use Rattle.table_find.proofs.Laws.{found_is, found_low, found_none}
 use Rattle.visit.specs.Telling.{visit_from, visit_slot, told}
 
-pub is_visit_lem : (r : Rec) (s : ℕ) {k : Bool} {n : ℕ} → k ≡ eqb r.kind 7 → n ≡ r.session → k && eqb n s ≡ is_visit s r
-is_visit_lem r s e f = rw (e, f)
+-- the n-th of the slots behind the first k that pass the test is the slot of the n-th visit there
+behind : (s : ℕ) (slots : List Rec) (k m n : ℕ) → k + m ≡ length slots → slice_get (filter (λ i. is_visit s (rec_at i slots)) (range_with_len (k + 1) m)) n ≡ found_at (visit_from (k + 1) s n (drop k slots))
+unfolding visit_from found_at
+behind s slots k zero n h = rw (drop_of_length-le slots {i = k} (omega (arith, h)))
+behind s slots k (suc m) n h =
+    let r : Rec = get_or slots k free_rec in
+    let d : drop k slots ≡ r ∷ drop (suc k) slots = drop-cons slots k free_rec (omega arith) in
+    let q : k + 1 ≡ suc k = add-one k in
+    rw (d, q) (one (is_visit s r) n (λ j. behind s slots (suc k) m j (omega arith)))
+  where
+    one : (z : Bool) (n : ℕ) → ((j : ℕ) → slice_get (filter (λ i. is_visit s (rec_at i slots)) (range_with_len (suc k + 1) m)) j ≡ found_at (visit_from (suc k + 1) s j (drop (suc k) slots)))
+        → slice_get (cond z (suc k ∷ filter (λ i. is_visit s (rec_at i slots)) (range_with_len (suc k + 1) m)) (filter (λ i. is_visit s (rec_at i slots)) (range_with_len (suc k + 1) m))) n
+        ≡ found_at (if (z && eqb n 0) (suc k) (visit_from (suc k + 1) s (if z (n - 1) n) (drop (suc k) slots)))
+    one false n later = later n
+    one true zero later = refl
+    one true (suc n) later = rw (sub-one, ne_eqb (suc n) 0 (λ e. omega arith)) (later n)
 
--- A search at slot k with so many visits left to pass: what is left of it says what the whole says
-pub record Seeking (b : List ℕ) (s n left k : ℕ) : Type 0 where
-  pub low : 1 ≤ k
-  pub high : k ≤ length b / 512
-  pub rest : visit_from k s left (drop (k - 1) (decode_table b).slots) ≡ visit_slot s n (decode_table b).slots
-
-module _ (b : List ℕ) (s n left k : ℕ) (l : Seeking b s n left k) where
-  abbrev slots : List Rec
-  slots = (decode_table b).slots
-
-  pub seek_none : length b / 512 ≤ k → None ≡ found_at (visit_slot s n (decode_table b).slots)
-  unfolding visit_from
-  seek_none h =
-      let d : drop (k - 1) slots ≡ [] = drop_of_length-le slots {i = k - 1} (omega (arith, slots_count b, l.low)) in
-      let z : 0 ≡ visit_slot s n slots = rw d at l.rest in
-      found_zero ∙ ap found_at z
-
-  module _ {r : Bool} (h : k < length b / 512) (e : r ≡ is_visit s (rec_at k (decode_table b).slots)) where
-    here : drop (k - 1) slots ≡ rec_at k slots ∷ drop (k + 1 - 1) slots
-    here = slots_from slots k l.low (omega (arith, slots_count b))
-
-    pub seek_found : r ≡ true → left ≡ 0 → Some k ≡ found_at (visit_slot s n (decode_table b).slots)
-    unfolding visit_from
-    seek_found t z =
-        let v : is_visit s (rec_at k slots) ≡ true = sym e ∙ t in
-        let y : k ≡ visit_slot s n slots = rw (here, v, eq-eqb left 0 z) at l.rest in
-        found_some k l.low ∙ ap found_at y
-
-    pub seek_past : r ≡ true → (left ≡ 0 → ⊥) → Seeking b s n (left - 1) (k + 1)
-    unfolding visit_from
-    seek_past t z =
-        let v : is_visit s (rec_at k slots) ≡ true = sym e ∙ t in
-        record { low = omega arith; high = omega arith; rest = rw (here, v, ne_eqb left 0 z) at l.rest }
-
-    pub seek_next : r ≡ false → Seeking b s n left (k + 1)
-    unfolding visit_from
-    seek_next t =
-        let v : is_visit s (rec_at k slots) ≡ false = sym e ∙ t in
-        record { low = omega arith; high = omega arith; rest = rw (here, v) at l.rest }
+pub visit_found : (b : List ℕ) (s n : ℕ) → 512 ≤ length b
+    → slice_get (filter (λ k. is_visit s (said_at k b)) (range_with_len 1 (length b / 512 - 1))) n ≡ found_at (visit_slot s n (decode_table b).slots)
+visit_found b s n h = behind s (decode_table b).slots 0 (length b / 512 - 1) n (omega (arith, slots_count b))
 
 -- The visit of a number
 
@@ -171,21 +150,6 @@ module _ (b : List ℕ) (s n : ℕ) {f : Option ℕ} (e : f ≡ found_at (visit_
       beyond : (z : Bool) → ltb n (length visits) ≡ z → length visits ≤ n
       beyond true q = absurd (omega (arith, found_none (visit_slot s n recs) e g, (visit_chosen s recs 1 n (ltb-true n (length visits) q)).low))
       beyond false q = ltb-false n (length visits) q
-
--- of the session that a cookie names
-module _ (b cookie : List ℕ) (n time : ℕ) (random o : List ℕ) {clock : ℕ} {f : Option ℕ} (c : clock ≡ max (decode_table b).clock time)
-    (e : f ≡ found_at (slot_where (is_named clock 2 cookie) (decode_table b).slots)) where
-  pub told_session : {s : ℕ} {r : VisitRead} → f ≡ Some s → r ≡ told (visits_in s (decode_table b).slots) n clock random b o
-      → r ≡ told (visits_of cookie time (decode_table b)) n (max (decode_table b).clock time) random b o
-  unfolding visits_of tick slot_named
-  told_session {s} g q =
-      let i = found_is (slot_where (is_named clock 2 cookie) (decode_table b).slots) e g in
-      let z : eqb s 0 ≡ false = ne_eqb s 0 (λ y. omega (arith, found_low (slot_where (is_named clock 2 cookie) (decode_table b).slots) e g)) in
-      rw (sym c, sym i, z) q
-
-  pub told_nobody : f ≡ None → visit_read (record { refusal = 9; length = 0 }) b o ≡ told (visits_of cookie time (decode_table b)) n (max (decode_table b).clock time) random b o
-  unfolding told visits_of tick slot_named
-  told_nobody g = let i = found_none (slot_where (is_named clock 2 cookie) (decode_table b).slots) e g in rw (sym c, i, le-ltb n 0 (omega arith))
 
 -- The call: refused, or so told
 

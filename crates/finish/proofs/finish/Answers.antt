@@ -1,6 +1,6 @@
 -- The waiting grant that is found is settled.
 use borrow.Author.Rules.{rules}
-use Rattle.finish.proofs.Laws.{found_waits, finish_at_lem, finish_none}
+use Rattle.finish.proofs.Laws.{found_waits, finish_at_lem}
 use Rattle.finish.proofs.finish.Goals as goal
 
 pub settle-requires : goal.settle-requires
@@ -8,6 +8,3 @@ settle-requires c = search (rules, found_waits)
 
 pub returns-in-Some : goal.returns-in-Some
 returns-in-Some c = search (rules, finish_at_lem)
-
-pub returns-in-None : goal.returns-in-None
-returns-in-None c = search (rules, finish_none)

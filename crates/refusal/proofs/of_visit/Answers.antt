@@ -1,13 +1,10 @@
--- Each test is a rung of the list. Assumes nothing.
-use borrow.Author.Rules.{rules}
-use Rattle.refusal.proofs.Laws.{judged_no, judged_yes, rung_no, rung_yes}
+-- Each test is a rung of the list; the first two were judged together.
+use lib.ListN.{length}
+use Rattle.protocol.specs.Table.{table_shape, table_lawful}
+use Rattle.protocol.specs.Calls.{check_of}
+use Rattle.refusal.proofs.Laws.{judged_no}
 use Rattle.refusal.proofs.of_visit.Goals as goal
 
 pub returns-in_err-of_check : goal.returns-in_err-of_check
-returns-in_err-of_check c = judged_no c.args.table.now _ c.from_residual.result c.in_err-of_check.field-0.0 c.from_residual.ensures.1 c.in_err-of_check.ensures
-
-pub returns-in_err-unless : goal.returns-in_err-unless
-returns-in_err-unless c = search (rules, judged_yes, rung_yes, rung_no) depth 12
-
-pub returns : goal.returns
-returns c = search (rules, judged_yes, rung_yes, rung_no) depth 12
+unfolding check_of
+returns-in_err-of_check c = judged_no (table_shape (length c.args.table.now)) (table_lawful c.args.table.now) 1 2 _ _ _ c.from_residual.ensures.1 c.in_err-of_check.ensures

@@ -1,18 +1,7 @@
--- Refused, or the request's step on the table after the clock. Assumes nothing.
+-- The step on the table after the clock. Assumes nothing.
 use borrow.Author.Rules.{rules}
-use Rattle.signon.proofs.Laws.{answer_refused, answer_lawful, answer_time, answer_cookie, answer_drawn, answer_lent, answer_done}
+use Rattle.signon.proofs.Laws.{answer_cookie, answer_lent, answer_done}
 use Rattle.signon.proofs.answer.Goals as goal
-
-pub returns-in-Err : goal.returns-in-Err
-returns-in-Err c =
-    answer_refused c.args.table.now c.args.register.now c.args.target.now c.args.body.now c.args.time c.args.random.now c.args.out.now c.args.cookie_out.now
-    c.args.method c.args.cookie.now c.args.verdict c.in-Err.refusal c.in-Err.ensures c.refused.ensures
-
-pub tick-requires : goal.tick-requires
-tick-requires c = (search (rules, answer_lawful), search (rules, answer_time))
-
-pub drawn-requires : goal.drawn-requires
-drawn-requires c = search (rules, answer_drawn)
 
 pub request-requires : goal.request-requires
 request-requires c = (
