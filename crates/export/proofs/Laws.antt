@@ -11,6 +11,7 @@ use Rattle.protocol.specs.Answers.{number_of, data_of}
 use Rattle.protocol.specs.Calls.{inputs, result_of, answer_of, finish_of, FormRead, form_read, form_of}
 use Rattle.protocol.specs.Visits.{visit_read, visit_of}
 use Rattle.protocol.specs.declared.Method.{Method}
+use Rattle.protocol.specs.declared.Method.TheVariants as method
 use Rattle.protocol.specs.declared.Outcome.{Outcome}
 use Rattle.protocol.specs.declared.Form.{Form}
 use Rattle.protocol.specs.Panels.{fault_of}
@@ -27,6 +28,11 @@ pub outcome_put : (l : List ℕ) (o : Outcome) {k f d : ℕ} → k ≡ number_of
     → l ≡ o.refusal ∷ k ∷ o.status ∷ o.length ∷ o.cookie_length ∷ f ∷ o.callback_serial ∷ d ∷ [] → l ≡ outcome_numbers o
 unfolding outcome_numbers
 outcome_put l o {k} {f} {d} p q r e = e ∙ rw (p, q ∙ flag o.cookie_cleared, r)
+
+-- the method, as it was told
+pub method_told : (post : Bool) {m : Method} → m ≡ if post method.Post method.Get → m ≡ method_of post
+method_told true e = e
+method_told false e = e
 
 module _ (l t g : List ℕ) (post : Bool) (u b k : List ℕ) (n : ℕ) (x : List ℕ) (v : Bool) (o c : List ℕ) where
   pub answer_none : (length l ≡ 8 → ⊥) → handed false l t o c ≡ answer_handed l (inputs t g (method_of post) u b k n x v o c)

@@ -10,12 +10,6 @@ ghost use Rattle.export.specs.Numbers.{handed, answer_handed, finish_handed, vis
 
 use protocol::{Fault, Form, Method, Outcome, Visit};
 
-fn method_of(post: bool) -> Method
-    ensures { result ≡ method_of post }
-{
-    if post { Method::Post } else { Method::Get }
-}
-
 // The eight numbers of an outcome.
 // Lengths here and below are widened by `as`: from `usize` to `u64` there is no From.
 fn put_outcome(o: Outcome, list: &mut [u64])
@@ -23,14 +17,14 @@ fn put_outcome(o: Outcome, list: &mut [u64])
     ensures { list.new ≡ outcome_numbers o }
 {
     list.copy_from_slice(&[
-        o.refusal as u64,
-        reply::number_of(o.answer) as u64,
-        o.status as u64,
+        u64::from(o.refusal),
+        u64::from(reply::number_of(o.answer)),
+        u64::from(o.status),
         o.length as u64,
         o.cookie_length as u64,
         u64::from(o.cookie_cleared),
-        o.callback_serial as u64,
-        reply::data_of(o.answer) as u64,
+        u64::from(o.callback_serial),
+        u64::from(reply::data_of(o.answer)),
     ]);
 }
 
@@ -40,7 +34,7 @@ fn put_form(f: Form, list: &mut [u64])
     ensures { list.new ≡ form_numbers f }
 {
     list.copy_from_slice(&[
-        f.refusal as u64,
+        u64::from(f.refusal),
         f.username_length as u64,
         f.password_length as u64,
     ]);
@@ -51,7 +45,7 @@ fn put_visit(v: Visit, list: &mut [u64])
     requires { length list.old ≡ 2 }
     ensures { list.new ≡ visit_numbers v }
 {
-    list.copy_from_slice(&[v.refusal as u64, v.length as u64]);
+    list.copy_from_slice(&[u64::from(v.refusal), v.length as u64]);
 }
 
 // The two of a register's check.
@@ -59,7 +53,7 @@ fn put_fault(f: Fault, list: &mut [u64])
     requires { length list.old ≡ 2 }
     ensures { list.new ≡ fault_numbers f }
 {
-    list.copy_from_slice(&[f.refusal as u64, f.block as u64]);
+    list.copy_from_slice(&[u64::from(f.refusal), f.block as u64]);
 }
 
 pub fn pyhtirso_format(table: &mut [u8], time: u64) -> u32
@@ -119,7 +113,7 @@ pub fn pyhtirso_answer(
     if outcome.len() != 8 {
         return false;
     }
-    let method = method_of(post);
+    let method = Method::from(post);
     let o = signon::answer(
         table, register, method, target, body, cookie, time, random, verdict, out, cookie_out,
     );
