@@ -1,2 +1,4 @@
--- What the contracts of lent buffers cite.
+-- What the contracts of lent buffers and of frames cite.
 pub mod Counts
+pub mod Frames
+pub mod Said

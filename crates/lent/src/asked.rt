@@ -22,13 +22,14 @@ pub struct Request<'a> {
 }
 
 impl<'a> Request<'a> {
+    ghost use Rattle.std.specs.Prelude.{IfSome};
+    ghost use Rattle.lent.specs.Said.{Asks};
+
     // None where the frame is cut, has bytes left over, or wants more room than there is.
-    pub fn read(mut fields: Fields<'a>) -> Option<Self> {
-        let method = if fields.flag()? {
-            Method::Post
-        } else {
-            Method::Get
-        };
+    pub fn read(mut fields: Fields<'a>) -> Option<Self>
+        ensures { IfSome result (λ r. Asks fields.entry.rest.now r) }
+    {
+        let method = Method::from(fields.flag()?);
         let time = fields.long()?;
         let verdict = fields.flag()?;
         let out = fields.size(16384)?;

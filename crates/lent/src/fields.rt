@@ -1,6 +1,7 @@
 // The fields of a frame, taken one behind the other. Numbers are little-endian; a text has its length before it, a number of four bytes.
 ghost use Rattle.std.specs.Prelude.{◌≡◌, ◌∷◌, [], ◌<◌, ◌≤◌, ltb, length, take, drop, slice_index, MatchOption, IfSome};
 ghost use Rattle.std.specs.Int.{w32, w64, from_le_bytes};
+ghost use Rattle.lent.specs.Frames.{number_of, text_of, behind_text};
 
 // What is left of a frame. None says that a field is cut: the frame ends within it.
 #[derive(Drop)]
@@ -53,7 +54,7 @@ impl<'a> Fields<'a> {
 
     // A number that is at most so many: None where it is more, too.
     pub fn size(&mut self, most: usize) -> Option<usize>
-        ensures { IfSome result (λ n. n ≤ most) }
+        ensures { IfSome result (λ n. (n ≤ most) × (n ≡ number_of self.old.rest.now) × (self.new.rest.now ≡ drop 4 self.old.rest.now)) }
     {
         let n = self.number()? as usize;
         if most < n {
@@ -63,7 +64,7 @@ impl<'a> Fields<'a> {
     }
 
     pub fn text(&mut self) -> Option<&'a [u8]>
-        ensures { IfSome result (λ text. text.now ≡ take (from_le_bytes w32 (take 4 self.old.rest.now)) (drop 4 self.old.rest.now)) }
+        ensures { IfSome result (λ text. (text.now ≡ text_of self.old.rest.now) × (self.new.rest.now ≡ behind_text self.old.rest.now)) }
     {
         let n = self.number()? as usize;
         let (text, rest) = self.rest.split_at_checked(n)?;

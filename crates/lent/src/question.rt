@@ -16,8 +16,13 @@ pub struct Question<'a> {
 }
 
 impl<'a> Question<'a> {
+    ghost use Rattle.std.specs.Prelude.{IfSome};
+    ghost use Rattle.lent.specs.Said.{Questions};
+
     // None where the frame is cut, has bytes left over, or wants more room than there is.
-    pub fn read(mut fields: Fields<'a>) -> Option<Self> {
+    pub fn read(mut fields: Fields<'a>) -> Option<Self>
+        ensures { IfSome result (λ q. Questions fields.entry.rest.now q) }
+    {
         let number = fields.number()?;
         let time = fields.long()?;
         let out = fields.size(16384)?;

@@ -52,7 +52,7 @@ impl FrameOut {
         ensures { self.new.end ≡ 9 }
     {
         self.begin(letter);
-        self.put_number(refusal as u64);
+        self.put_number(u64::from(refusal));
     }
 
     pub fn reply_fault(&mut self, fault: Fault) {
@@ -102,9 +102,9 @@ impl FrameOut {
         self.put_refusal(letter, o.refusal);
         self.put_byte((reply::number_of(o.answer) % 256) as u8);
         self.put_byte((reply::data_of(o.answer) % 256) as u8);
-        self.put_number(o.status as u64);
-        self.put_byte(o.cookie_cleared as u8);
-        self.put_number(o.callback_serial as u64);
+        self.put_number(u64::from(o.status));
+        self.put_byte(u8::from(o.cookie_cleared));
+        self.put_number(u64::from(o.callback_serial));
     }
 
     // Answer and finish, up to what they changed.

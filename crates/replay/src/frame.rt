@@ -77,14 +77,13 @@ pub fn size(input: &mut impl Read, most: usize) -> Result<usize, Stop>
     Ok(n)
 }
 
-// A text, put at the start of buf: how many bytes it has.
-pub fn text(input: &mut impl Read, buf: &mut [u8]) -> Result<usize, Stop>
-    ensures ok { IfOk result (λ n. n ≤ length buf.new) }
-    ensures err { OnErr result (length buf.new ≡ length buf.old) }
+// A text, put at the start of a room that has place for it.
+pub fn text<'a>(input: &mut impl Read, room: &'a mut [u8; 65536]) -> Result<&'a [u8], Stop>
+    ensures { IfOk result (λ text. length text.now ≤ 65536) }
 {
-    let n = size(input, buf.len())?;
-    fill(input, &mut buf[..n])?;
-    Ok(n)
+    let n = size(input, room.len())?;
+    fill(input, &mut room[..n])?;
+    Ok(&room[..n])
 }
 
 // So many bytes more of a frame, put behind those before a place: where they end.

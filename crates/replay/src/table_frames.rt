@@ -11,10 +11,11 @@ pub fn take_register(input: &mut impl Read, register: &mut Kept<65536>) -> Resul
 
 pub fn poke(input: &mut impl Read, table: &mut Kept<70000>) -> Result<(), Stop> {
     let at = number(input)? as usize;
-    let mut bytes = [0u8; 65536];
-    let n = text(input, &mut bytes)?;
-    let place = table.bytes_mut().get_mut(at..at + n).ok_or(Bad::Cut)?;
-    place.copy_from_slice(&bytes[..n]);
+    let mut room = [0u8; 65536];
+    let bytes = text(input, &mut room)?;
+    let end = at + bytes.len();
+    let place = table.bytes_mut().get_mut(at..end).ok_or(Bad::Cut)?;
+    place.copy_from_slice(bytes);
     Ok(())
 }
 
