@@ -5,7 +5,7 @@ use mathlib.Core.List.{List, [], ◌∷◌, ◌++◌}
 use Prim.Native.Nat.{ℕ, suc, ◌+◌, ◌-◌, ◌/◌, ◌%◌, ◌≤◌, ◌<◌}
 use native.Mathlib.Omega.{arith}
 use lib.Dec.{eqb}
-use lib.ListN.{length, take, drop, get_or, replicate, length-drop, length-replicate, drop_of_length-le}
+use lib.ListN.{length, take, drop, get_or, set, replicate, length-drop, length-replicate, drop_of_length-le}
 use lib.Seq.{take_all, drop-drop}
 use borrow.Author.Tests.{eq-eqb, ne_eqb}
 use borrow.Rule.Slice.PartMut.{put_mid}
@@ -19,7 +19,7 @@ use Rattle.protocol.specs.Written.{Room, Wrote}
 use Rattle.protocol.proofs.Laws.{drop-step}
 use Rattle.text.specs.First.{FirstAt}
 use Rattle.protocol.proofs.Sizes.{length-spliced}
-use Rattle.text.proofs.Splice.{Left, left_room, left_put, left_done}
+use Rattle.text.proofs.Splice.{Left, left_room, left_put, left_byte, left_lt, left_done}
 
 -- a part `out[at..to]` that is written over
 pub part_wrote : (d t : List ℕ) (at n : ℕ) → at + n ≤ length d → length t ≡ n → Wrote d at (put_mid at (at + n - at) d t) (at + n) t
@@ -30,13 +30,21 @@ part_wrote d t at n h l =
     let e : put_mid at (at + n - at) d t ≡ spliced d at t = rw k (ap (λ (r : List ℕ). take at d ++ (t ++ r)) (drop-drop (length t) at d)) in
     record { holds = e; moves = m; room = h; same = ap length e ∙ length-spliced d at t (omega arith) }
 
-pub copy_wrote : (d s t : List ℕ) (at : ℕ) → at + length s ≤ length d → t ≡ s → Wrote d at (put_mid at (at + length s - at) d t) (at + length s) s
-copy_wrote d s t at h e = rw e (part_wrote d s at (length s) h refl)
-
 pub zeros_wrote : (d t : List ℕ) (at n k : ℕ) → at + length (zeros n) ≤ length d → t ≡ replicate k 0 → k ≡ n → Wrote d at (put_mid at (at + n - at) d t) (at + n) (zeros n)
 zeros_wrote d t at n k h e q =
     let l : length (zeros n) ≡ n = length-replicate {A = ℕ} n 0 in
     rw (e, q) (part_wrote d (zeros n) at n (omega arith) l)
+
+-- the loop of `put_bytes`
+module _ (d s e : List ℕ) (at to i : ℕ) (l : Left d at s e to (drop i s)) where
+  pub copy_room : i < length s → to < length e
+  copy_room h = left_lt l (omega (arith, length-drop i s))
+
+  pub copy_turn : i < length s → Left d at s (set e to (get_or s i 0)) (to + 1) (drop (i + 1) s)
+  copy_turn h = left_byte (drop (i + 1) s) l (drop-step s i h)
+
+  pub copy_done : length s ≤ i → Wrote d at e to s
+  copy_done h = left_done (rw (drop_of_length-le s h) at l)
 
 -- one byte escaped
 module _ (b k : ℕ) (d t : List ℕ) (at : ℕ) (p : b ≡ k) (q : escaped_byte k ≡ t) where
