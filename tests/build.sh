@@ -8,6 +8,16 @@ build_archive() {
     mkdir -p target/staticlib target/tests
     (cd crates/export_c && rt lib) >target/staticlib.log 2>&1 || { tail -n 3 target/staticlib.log; return 1; }
     cp crates/export_c/out/libexport_c.a "$archive"
+    hold_needs "$archive"
+}
+
+# hold_needs ARCHIVE: fails where it asks its host for a name beyond those of docs/HOST.md. One that a member of it has is not asked of the host.
+hold_needs() {
+    local names beyond
+    names=$(nm --format=posix "$1") || return 1
+    beyond=$(awk '$2 ~ /^[Uwv]$/ { asked[$1]; next } $2 ~ /^[A-Z]$/ { has[$1] }
+        END { for (name in asked) if (!(name in has) && name != "memcpy" && name != "memset") print name }' <<<"$names" | sort | paste -s -d " ")
+    [ -z "$beyond" ] || { echo "the archive asks its host for more than memcpy and memset: $beyond"; return 1; }
 }
 
 # compile_kit SOURCE: to target/tests, by the compiler that makes the archive too.
