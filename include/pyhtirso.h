@@ -19,7 +19,8 @@ extern "C" {
 /* The version of this header. It rises where a call, a number or a format changes. */
 #define PYHTIRSO_VERSION 2
 
-/* Bytes of stack that a call takes at most, its arguments included. Measured, not proved: docs/FIGURES.md. */
+/* Bytes of stack that a call takes at most, its arguments included, where memcpy and memset are bound before it (docs/HOST.md, "Linking").
+ * Measured, not proved: docs/FIGURES.md. */
 #define PYHTIRSO_STACK 2048
 
 /* Refusal numbers, judged in this order; 0 where the call was answered. A refused call writes its number and zeros to its list of numbers, and
