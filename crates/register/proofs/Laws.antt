@@ -18,7 +18,6 @@ use Rattle.protocol.specs.Bytes.{if, ascii, same, all_within, part, blocks}
 use Rattle.protocol.specs.Blocks.{check_right}
 use Rattle.protocol.specs.Register.{decode_entry, decode_register, register_shape, register_lawful, registered, callback_of}
 use Rattle.protocol.specs.Panels.{service_in, at_fault, fault_from, fault, fault_of}
-use Rattle.protocol.specs.declared.Fault.{Fault}
 use Rattle.protocol.proofs.Laws.{one_test, same-eq}
 use Rattle.protocol.proofs.Faults.{behind, said, faults_none, faults_some}
 use Rattle.register.specs.Blockwise.{secure, rest_right, place_of, callback_in, if_below}
@@ -237,11 +236,11 @@ module _ (b : List ℕ) where
 -- `check` and `register_lawful`
 module _ (b : List ℕ) (s : Bool) (es : s ≡ register_shape (length b)) where
   module _ (f : s ≡ true) (o : Option ℕ) (e : o ≡ if_below (length b / 512) (fault_from 0 (length b / 512) b)) where
-    pub check_fault : (k : ℕ) {y : Fault} → o ≡ Some k → y ≡ fault 3 k → y ≡ fault_of b
+    pub check_fault : (k : ℕ) → o ≡ Some k → fault 3 k ≡ fault_of b
     unfolding fault_of
-    check_fault k q g =
+    check_fault k q =
         let p = below_some (length b / 512) (fault_from 0 (length b / 512) b) k (sym q ∙ e) in
-        g ∙ rw (← es, f, p.0, faults_some b (sym es ∙ f) p.1)
+        rw (← es, f, p.0, faults_some b (sym es ∙ f) p.1)
 
     pub check_none : o ≡ None → fault 0 0 ≡ fault_of b
     unfolding fault_of
