@@ -26,7 +26,7 @@ use Rattle.register.specs.Blockwise.{secure, rest_right, place_of, callback_in, 
 turned : (x y : ℕ) → eqb x y ≡ eqb y x
 turned x y = one_test (eqb x y) (eqb y x) (λ e. eq-eqb y x (sym (eqb-true x y e))) (λ e. eq-eqb x y (sym (eqb-true y x e)))
 
-same_bytewise : (a b : List ℕ) → pointwise eqb a b ≡ same b a
+pub same_bytewise : (a b : List ℕ) → pointwise eqb a b ≡ same b a
 unfolding same
 same_bytewise [] [] = refl
 same_bytewise [] (y ∷ b) = refl
