@@ -51,11 +51,11 @@ fn life_right(f: Fields, clock: Time, next: u32) -> bool
 
 // A session was made at T at the latest; other kinds have no sign-on time.
 #[tactic(auto, using(ticket::proofs::Laws::other_number))]
-fn since_right(f: Fields, clock: Time) -> bool
-    ensures { result ≡ since_test clock.seconds f }
+fn since_right(f: Fields, clock: u64) -> bool
+    ensures { result ≡ since_test clock f }
 {
     match f.kind {
-        Kind::Session => f.since <= clock.seconds,
+        Kind::Session => f.since <= clock,
         _ => f.since == 0,
     }
 }
@@ -118,7 +118,7 @@ pub fn record_right(block: &[u8; 512], f: Fields, clock: Time, next: u32) -> boo
     secrets_right(block, f.kind)
         & text_right(block, f.kind, usize::from(n))
         & gaps_zero(block)
-        & since_right(f, clock)
+        & since_right(f, clock.seconds)
         & life_right(f, clock, next)
 }
 
