@@ -66,15 +66,22 @@ pub fn long(input: &mut impl Read) -> Result<u64, Stop> {
     Ok(u64::from_le_bytes(array(input)?))
 }
 
-// A number that is at most so many.
-pub fn size(input: &mut impl Read, most: usize) -> Result<usize, Stop>
-    ensures { IfOk result (λ n. n ≤ most) }
+// A number that was read, where it is at most so many.
+pub fn fitting(n: u32, most: usize) -> Result<usize, Stop>
+    ensures { IfOk result (λ size. size ≤ most) }
 {
-    let n = number(input)? as usize;
+    let n = n as usize;
     if most < n {
         return Err(Stop::Bad(Bad::Cut));
     }
     Ok(n)
+}
+
+// The next number, where it is at most so many.
+pub fn size(input: &mut impl Read, most: usize) -> Result<usize, Stop>
+    ensures { IfOk result (λ n. n ≤ most) }
+{
+    fitting(number(input)?, most)
 }
 
 // A text, put at the start of a room that has place for it.
