@@ -8,7 +8,6 @@ use native.Mathlib.Omega.{arith}
 use borrow.Author.Tests.{eqb-true, ne_eqb}
 use lib.Dec.{eqb}
 use lib.ListN.{length, take, drop}
-use Rattle.std.specs.Borrow.{Bor}
 use Rattle.protocol.specs.Bytes.{if, same, up_to, part}
 use Rattle.protocol.specs.Request.{pieces, name_in, value_in, count_named, first_named, occurrences, raw_value, path_named, path_part, query_part}
 use Rattle.protocol.specs.declared.Path.{Path}
@@ -16,7 +15,7 @@ use Rattle.protocol.proofs.Pieces.{take-up_to, past-drop}
 use Rattle.text.specs.First.{FirstAt}
 use Rattle.text.proofs.Laws.{tail_part}
 use Rattle.query.specs.Piece.{piece_at, piece_after}
-use Rattle.query.specs.Place.{Inside, noted_by, Noted, Walked}
+use Rattle.query.specs.Place.{Inside, noted_by, raw_in, Noted, Walked}
 use Rattle.query.specs.declared.Piece.{Piece}
 use Rattle.query.specs.declared.Place.{Place}
 use Rattle.query.specs.declared.Places.{Places}
@@ -42,13 +41,15 @@ query_none t n f h = sym (past-drop 63 t ∙ drop_end t (suc (length (up_to 63 t
 -- a name noted in the pieces up to a place: what was noted and the pieces that are left say what the whole query says
 pub record Noting (q name : List ℕ) (at : ℕ) (p : Place) : Type 0 where
   pub count : occurrences name q ≡ p.count + count_named name (pieces (drop at q))
-  pub raw : raw_value name q ≡ if (eqb p.count 0) (first_named name (pieces (drop at q))) p.raw.now
-  pub none : eqb p.count 0 ≡ true → p.raw.now ≡ []
+  pub raw : raw_value name q ≡ if (eqb p.count 0) (first_named name (pieces (drop at q))) (raw_in q p)
+  pub none : eqb p.count 0 ≡ true → raw_in q p ≡ []
   pub most : p.count ≤ at
+  pub inside : Inside q p.from p.to
 
-noting_start : (q name : List ℕ) (p : Place) → p.count ≡ 0 → p.raw.now ≡ [] → Noting q name 0 p
+noting_start : (q name : List ℕ) (p : Place) → p.count ≡ 0 → p.from ≡ 0 → p.to ≡ 0 → Noting q name 0 p
 unfolding occurrences raw_value
-noting_start q name p z e = record { count = omega (arith, z); raw = rw z; none = λ i. e; most = omega arith }
+noting_start q name p z f e =
+    record { count = omega (arith, z); raw = rw z; none = λ i. rw (f, e); most = omega arith; inside = record { ordered = omega arith; ends = omega arith } }
 
 -- and four names
 pub record Walking (q a b c d : List ℕ) (at : ℕ) (w : Places) : Type 0 where
@@ -57,8 +58,9 @@ pub record Walking (q a b c d : List ℕ) (at : ℕ) (w : Places) : Type 0 where
   pub third : Noting q c at w.c
   pub fourth : Noting q d at w.d
 
-pub walking_start : (q a b c d : List ℕ) (p : Place) → p.count ≡ 0 → p.raw.now ≡ [] → Walking q a b c d 0 (record { a = p; b = p; c = p; d = p })
-walking_start q a b c d p z e = record { first = noting_start q a p z e; second = noting_start q b p z e; third = noting_start q c p z e; fourth = noting_start q d p z e }
+pub walking_start : (q a b c d : List ℕ) (p : Place) → p.count ≡ 0 → p.from ≡ 0 → p.to ≡ 0 → Walking q a b c d 0 (record { a = p; b = p; c = p; d = p })
+walking_start q a b c d p z f e =
+    record { first = noting_start q a p z f e; second = noting_start q b p z f e; third = noting_start q c p z f e; fourth = noting_start q d p z f e }
 
 module _ (q : List ℕ) (p r : Piece) (e : r ≡ piece_after q p) where
   -- no piece is left: what was noted is what the query says
@@ -67,9 +69,9 @@ module _ (q : List ℕ) (p r : Piece) (e : r ≡ piece_after q p) where
     unfolding count_named first_named
     done name w n =
         let z : pieces (drop p.end q) ≡ [] = told_end q p r e k in
-        record { count = omega (arith, n.count, ap (count_named name) z); raw = go (eqb w.count 0) refl (n.raw ∙ rw z) }
+        record { count = omega (arith, n.count, ap (count_named name) z); raw = go (eqb w.count 0) refl (n.raw ∙ rw z); inside = n.inside }
       where
-        go : (t : Bool) → eqb w.count 0 ≡ t → raw_value name q ≡ if t [] w.raw.now → w.raw.now ≡ raw_value name q
+        go : (t : Bool) → eqb w.count 0 ≡ t → raw_value name q ≡ if t [] (raw_in q w) → raw_in q w ≡ raw_value name q
         go true f g = n.none f ∙ sym g
         go false f g = sym g
 
@@ -87,7 +89,7 @@ module _ (q : List ℕ) (p r : Piece) (e : r ≡ piece_after q p) where
     pub name_ends : r.mid ≤ length q
     name_ends = omega (arith, piece)
 
-    pub value_inside : Inside q r.value r.end
+    value_inside : Inside q r.value r.end
     value_inside = record { ordered = piece.ends; ends = piece.inside }
 
     -- what is left to read falls
@@ -110,34 +112,35 @@ module _ (q : List ℕ) (p r : Piece) (e : r ≡ piece_after q p) where
       more : eqb (w.count + 1) 0 ≡ false
       more = ne_eqb (w.count + 1) 0 (λ z. omega arith)
 
-      module _ (b : Bor (List ℕ)) (eb : b.now ≡ part r.value (r.end - r.value) q) where
-        turned : (h z : Bool) → eqb w.count 0 ≡ z → occurrences name q ≡ w.count + (if h 1 0 + count_named name left)
-            → raw_value name q ≡ if z (if h value (first_named name left)) w.raw.now
-            → Noting q name r.end (if h (if z (record { count = w.count + 1; raw = b }) (record { count = w.count + 1; raw = w.raw })) w)
-        turned true true f c g =
-            record {
-              count = omega arith;
-              raw = rw more (g ∙ sym piece.value ∙ sym eb);
-              none = λ i. absurd (omega (arith, eqb-true (w.count + 1) 0 i));
-              most = omega (arith, piece, n.most);
-            }
-        turned true false f c g =
-            record {
-              count = omega arith;
-              raw = rw more g;
-              none = λ i. absurd (omega (arith, eqb-true (w.count + 1) 0 i));
-              most = omega (arith, piece, n.most);
-            }
-        turned false z f c g = record { count = omega arith; raw = rw f g; none = n.none; most = omega (arith, piece, n.most) }
+      turned : (h z : Bool) → eqb w.count 0 ≡ z → occurrences name q ≡ w.count + (if h 1 0 + count_named name left)
+          → raw_value name q ≡ if z (if h value (first_named name left)) (raw_in q w)
+          → Noting q name r.end (if h (if z (record { count = w.count + 1; from = r.value; to = r.end }) (record { count = w.count + 1; from = w.from; to = w.to })) w)
+      turned true true f c g =
+          record {
+            count = omega arith;
+            raw = rw more (g ∙ sym piece.value);
+            none = λ i. absurd (omega (arith, eqb-true (w.count + 1) 0 i));
+            most = omega (arith, piece, n.most);
+            inside = value_inside;
+          }
+      turned true false f c g =
+          record {
+            count = omega arith;
+            raw = rw more g;
+            none = λ i. absurd (omega (arith, eqb-true (w.count + 1) 0 i));
+            most = omega (arith, piece, n.most);
+            inside = n.inside;
+          }
+      turned false z f c g = record { count = omega arith; raw = rw f g; none = n.none; most = omega (arith, piece, n.most); inside = n.inside }
 
-        -- it is noted
-        pub noting_turn : (v : Place) → v ≡ noted_by (same (part r.start (r.mid - r.start) q) name) b w → Noting q name r.end v
-        unfolding noted_by count_named first_named
-        noting_turn v u =
-            let here : Bool = same (part r.start (r.mid - r.start) q) name in
-            let h : same (name_in (piece_at q r.start)) name ≡ here = sym (ap (λ (l : List ℕ). same l name) piece.name) in
-            rw u
-            (turned here (eqb w.count 0) refl
-            (n.count ∙ ap (λ (ps : List (List ℕ)). w.count + count_named name ps) piece.first ∙ ap (λ (b : Bool). w.count + (if b 1 0 + count_named name left)) h)
-            (n.raw ∙ ap (λ (ps : List (List ℕ)). if (eqb w.count 0) (first_named name ps) w.raw.now) piece.first
-            ∙ ap (λ (b : Bool). if (eqb w.count 0) (if b value (first_named name left)) w.raw.now) h))
+      -- it is noted
+      pub noting_turn : (v : Place) → v ≡ noted_by (same (part r.start (r.mid - r.start) q) name) r.value r.end w → Noting q name r.end v
+      unfolding noted_by count_named first_named
+      noting_turn v u =
+          let here : Bool = same (part r.start (r.mid - r.start) q) name in
+          let h : same (name_in (piece_at q r.start)) name ≡ here = sym (ap (λ (l : List ℕ). same l name) piece.name) in
+          rw u
+          (turned here (eqb w.count 0) refl
+          (n.count ∙ ap (λ (ps : List (List ℕ)). w.count + count_named name ps) piece.first ∙ ap (λ (b : Bool). w.count + (if b 1 0 + count_named name left)) h)
+          (n.raw ∙ ap (λ (ps : List (List ℕ)). if (eqb w.count 0) (first_named name ps) (raw_in q w)) piece.first
+          ∙ ap (λ (b : Bool). if (eqb w.count 0) (if b value (first_named name left)) (raw_in q w)) h))

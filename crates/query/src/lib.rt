@@ -28,21 +28,23 @@ pub struct Reader<'a> {
     pub place: Piece,
 }
 
-// What a walk notes of a name: how many pieces have it, and the raw value of the first, a part of the query itself.
+// What a walk notes of a name: how many pieces have it, and where the raw value of the first lies; `raw_at` is that part of the query.
+// Places and no slice: who writes over the query, or wipes a password in it, has let its borrow go and still knows where the value stands.
 // No Option: the meaning's `occurrences` counts from 0, its `raw_value` is empty for an absent name, and neither may change.
 #[derive(Clone, Copy)]
-pub struct Place<'a> {
+pub struct Place {
     pub count: usize,
-    pub raw: &'a [u8],
+    pub from: usize,
+    pub to: usize,
 }
 
 // The same of four names.
 #[derive(Clone, Copy)]
-pub struct Places<'a> {
-    pub a: Place<'a>,
-    pub b: Place<'a>,
-    pub c: Place<'a>,
-    pub d: Place<'a>,
+pub struct Places {
+    pub a: Place,
+    pub b: Place,
+    pub c: Place,
+    pub d: Place,
 }
 
 // Which path a text is. By `text::same`, since `==` takes no array beside a slice. (A match on byte strings: tried, and the proof
@@ -157,33 +159,31 @@ pub fn piece_after(query: &[u8], place: Piece) -> Piece
     next(Reader { query, place }).place
 }
 
-// A piece of some name noted for one that is wanted: where it is that, it is one more, and the first one's value is kept.
+// A piece of some name noted for one that is wanted: where it is that, it is one more, and the first one's place is kept.
 #[tactic(auto, using(text::proofs::Laws::same_pointwise), unfolding(crate::specs::Place::noted_by))]
-fn noted<'a>(place: Place<'a>, name: &[u8], wanted: &[u8], raw: &'a [u8]) -> Place<'a>
+fn noted(place: Place, name: &[u8], wanted: &[u8], from: usize, to: usize) -> Place
     requires { place.count + 1 < 2 ^ 64 }
-    ensures { result ≡ noted_by (same name.now wanted.now) raw.entry place.entry }
+    ensures { result ≡ noted_by (same name.now wanted.now) from to place }
 {
     if name == wanted {
         let count = place.count + 1;
         if place.count == 0 {
-            return Place { count, raw };
+            return Place { count, from, to };
         }
-        return Place {
-            count,
-            raw: place.raw,
-        };
+        return Place { count, ..place };
     }
     place
 }
 
 // The walk: every piece once, and four names noted at each.
 // Its loop goes by the reader's one thin step, the form that document 01 names.
-pub fn walk<'a>(q: &'a [u8], a: &[u8], b: &[u8], c: &[u8], d: &[u8]) -> Places<'a>
+pub fn walk(q: &[u8], a: &[u8], b: &[u8], c: &[u8], d: &[u8]) -> Places
     ensures { Walked q.now a.now b.now c.now d.now result }
 {
     let none = Place {
         count: 0,
-        raw: &q[..0],
+        from: 0,
+        to: 0,
     };
     let mut at = Places {
         a: none,
@@ -203,12 +203,11 @@ pub fn walk<'a>(q: &'a [u8], a: &[u8], b: &[u8], c: &[u8], d: &[u8]) -> Places<'
             return at;
         }
         let name = &q[piece.start..piece.mid];
-        let raw = raw_at(q, piece.value, piece.end);
         at = Places {
-            a: noted(at.a, name, a, raw),
-            b: noted(at.b, name, b, raw),
-            c: noted(at.c, name, c, raw),
-            d: noted(at.d, name, d, raw),
+            a: noted(at.a, name, a, piece.value, piece.end),
+            b: noted(at.b, name, b, piece.value, piece.end),
+            c: noted(at.c, name, c, piece.value, piece.end),
+            d: noted(at.d, name, d, piece.value, piece.end),
         };
     }
 }

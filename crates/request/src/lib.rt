@@ -3,11 +3,13 @@
 // A value is compared where it lies, and nothing is written unless it is decoded from there into a lent buffer.
 #![tactic(auto)]
 
-ghost use Rattle.std.specs.Prelude.{◌≡◌, length, Some, None, option_map};
+ghost use Rattle.std.specs.Prelude.{◌≡◌, false, length, Some, None, option_map, IfSome};
 ghost use Rattle.protocol.specs.Bytes.{if};
 ghost use Rattle.protocol.specs.Request.{decoded, asked, posted, leaving, shown, wanted};
-ghost use Rattle.request.specs.Value.{spelled, right_by, judged_as, callback_as};
+ghost use Rattle.query.specs.Place.{Inside, raw_in};
+ghost use Rattle.request.specs.Value.{spelled, right_by, judged_as, callback_as, callback_in};
 ghost use Rattle.request.specs.Spelled.{spelled_asked, spelled_posted, spelled_leaving, spelled_shown, spelled_wanted};
+ghost use Rattle.request.specs.Standing.{Taken, StandsAsked, StandsPosted, StandsLeaving, StandsShown, StandsWanted};
 
 mod value;
 
@@ -76,13 +78,16 @@ fn right_length<const MOST: usize>(raw: &[u8], in_body: bool, rule: Rule) -> Opt
 // A name judged by what was noted of it. One that stands twice is bad.
 #[tactic(auto, using(crate::proofs::Laws::right_short, crate::proofs::Laws::right_bytes), unfolding(crate::specs::Value::judged_as))]
 fn judged<'a, const MOST: usize>(
-    place: Place<'a>,
+    q: &'a [u8],
+    place: Place,
     in_body: bool,
     rule: Rule,
 ) -> Option<Value<'a, MOST>>
-    ensures { option_map spelled result ≡ judged_as MOST in_body rule place.entry }
+    requires { Inside q.now place.from place.to }
+    ensures spells { option_map spelled result ≡ judged_as MOST in_body rule q.now place }
+    ensures taken { IfSome result (λ v. Taken in_body (raw_in q.now place) v.spelling) }
 {
-    let raw = place.raw;
+    let raw = query::raw_at(q, place.from, place.to);
     let length = right_length::<MOST>(raw, in_body, rule)?;
     if 1 < place.count {
         return None;
@@ -96,13 +101,15 @@ fn judged<'a, const MOST: usize>(
 }
 
 // The callback's name, which /cas/validate does not use.
-#[tactic(auto, unfolding(crate::specs::Value::callback_as, protocol::specs::Request::decoded_from, protocol::specs::Bytes::all_within))]
-fn judged_callback<'a>(validator: Validator, place: Place<'a>) -> Option<Value<'a, LONG>>
-    ensures { option_map spelled result ≡ callback_as validator place.entry }
+#[tactic(auto, unfolding(crate::specs::Value::callback_as, crate::specs::Value::callback_in, protocol::specs::Request::decoded_from, protocol::specs::Bytes::all_within))]
+fn judged_callback<'a>(validator: Validator, q: &'a [u8], place: Place) -> Option<Value<'a, LONG>>
+    requires { Inside q.now place.from place.to }
+    ensures spells { option_map spelled result ≡ callback_as validator q.now place }
+    ensures taken { IfSome result (λ v. Taken false (callback_in validator q.now place) v.spelling) }
 {
     match validator {
         Validator::Plain => {
-            let raw = &place.raw[..0];
+            let raw = &q[..0];
             let spelling = Spelling {
                 raw,
                 in_body: false,
@@ -110,18 +117,19 @@ fn judged_callback<'a>(validator: Validator, place: Place<'a>) -> Option<Value<'
             };
             Some(Value { spelling })
         }
-        Validator::Service => judged(place, false, Rule::Plain),
-        Validator::Proxy => judged(place, false, Rule::Plain),
+        Validator::Service => judged(q, place, false, Rule::Plain),
+        Validator::Proxy => judged(q, place, false, Rule::Plain),
     }
 }
 
 pub fn login_query<'a>(q: &'a [u8]) -> Option<LoginQuery<'a>>
-    ensures { spelled_asked result ≡ asked q.now }
+    ensures spells { spelled_asked result ≡ asked q.now }
+    ensures stands { IfSome result (λ a. StandsAsked q.now a) }
 {
     let found = query::walk(q, b"service", b"renew", b"gateway", b"");
-    let service = judged(found.a, false, Rule::Plain)?;
-    judged::<LONG>(found.b, false, Rule::Plain)?;
-    judged::<LONG>(found.c, false, Rule::Plain)?;
+    let service = judged(q, found.a, false, Rule::Plain)?;
+    judged::<LONG>(q, found.b, false, Rule::Plain)?;
+    judged::<LONG>(q, found.c, false, Rule::Plain)?;
     Some(LoginQuery {
         service,
         renew: 0 < found.b.count,
@@ -130,13 +138,14 @@ pub fn login_query<'a>(q: &'a [u8]) -> Option<LoginQuery<'a>>
 }
 
 pub fn login_body<'a>(body: &'a [u8]) -> Option<LoginBody<'a>>
-    ensures { spelled_posted result ≡ posted body.now }
+    ensures spells { spelled_posted result ≡ posted body.now }
+    ensures stands { IfSome result (λ p. StandsPosted body.now p) }
 {
     let found = query::walk(body, b"service", b"username", b"password", b"lt");
-    let service = judged(found.a, true, Rule::Plain)?;
-    let username = judged(found.b, true, Rule::Username)?;
-    let password = judged(found.c, true, Rule::Password)?;
-    let lt = judged(found.d, true, Rule::Plain)?;
+    let service = judged(body, found.a, true, Rule::Plain)?;
+    let username = judged(body, found.b, true, Rule::Username)?;
+    let password = judged(body, found.c, true, Rule::Password)?;
+    let lt = judged(body, found.d, true, Rule::Plain)?;
     Some(LoginBody {
         service,
         username,
@@ -147,20 +156,22 @@ pub fn login_body<'a>(body: &'a [u8]) -> Option<LoginBody<'a>>
 
 #[tactic(auto, using(crate::proofs::Laws::leaving_told))]
 pub fn logout_query<'a>(q: &'a [u8]) -> Option<Value<'a, LONG>>
-    ensures { spelled_leaving result ≡ leaving q.now }
+    ensures spells { spelled_leaving result ≡ leaving q.now }
+    ensures stands { IfSome result (λ url. StandsLeaving q.now url.spelling) }
 {
     let found = query::walk(q, b"url", b"", b"", b"");
-    judged(found.a, false, Rule::Plain)
+    judged(q, found.a, false, Rule::Plain)
 }
 
 pub fn validator_query<'a>(validator: Validator, q: &'a [u8]) -> Option<ValidatorQuery<'a>>
-    ensures { spelled_shown result ≡ shown validator q.now }
+    ensures spells { spelled_shown result ≡ shown validator q.now }
+    ensures stands { IfSome result (λ s. StandsShown validator q.now s) }
 {
     let found = query::walk(q, b"service", b"ticket", b"renew", b"pgtUrl");
-    let service = judged(found.a, false, Rule::Plain)?;
-    let ticket = judged(found.b, false, Rule::Plain)?;
-    judged::<LONG>(found.c, false, Rule::Plain)?;
-    let pgt_url = judged_callback(validator, found.d)?;
+    let service = judged(q, found.a, false, Rule::Plain)?;
+    let ticket = judged(q, found.b, false, Rule::Plain)?;
+    judged::<LONG>(q, found.c, false, Rule::Plain)?;
+    let pgt_url = judged_callback(validator, q, found.d)?;
     Some(ValidatorQuery {
         service,
         ticket,
@@ -170,10 +181,11 @@ pub fn validator_query<'a>(validator: Validator, q: &'a [u8]) -> Option<Validato
 }
 
 pub fn proxy_query<'a>(q: &'a [u8]) -> Option<ProxyQuery<'a>>
-    ensures { spelled_wanted result ≡ wanted q.now }
+    ensures spells { spelled_wanted result ≡ wanted q.now }
+    ensures stands { IfSome result (λ w. StandsWanted q.now w) }
 {
     let found = query::walk(q, b"pgt", b"targetService", b"", b"");
-    let pgt = judged(found.a, false, Rule::Plain)?;
-    let target = judged(found.b, false, Rule::Plain)?;
+    let pgt = judged(q, found.a, false, Rule::Plain)?;
+    let target = judged(q, found.b, false, Rule::Plain)?;
     Some(ProxyQuery { pgt, target })
 }

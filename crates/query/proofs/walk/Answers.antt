@@ -1,6 +1,6 @@
 -- Invariant: what was noted of each name, and the pieces that are left, say what the whole query says. Assumes nothing.
 use borrow.Author.Rules.{rules}
-use Rattle.query.proofs.Laws.{walking_start, walked, name_starts, name_ends, value_inside, goes_on, count_most, noting_turn}
+use Rattle.query.proofs.Laws.{walking_start, walked, name_starts, name_ends, goes_on, count_most, noting_turn}
 use Rattle.query.proofs.walk.Goals as goal
 
 pub loop-piece-init : goal.loop-piece-init
@@ -17,9 +17,6 @@ slice_bounds-name-start c = search (rules, name_starts)
 
 pub slice_bounds-name-end : goal.slice_bounds-name-end
 slice_bounds-name-end c = search (rules, name_ends)
-
-pub raw_at-raw-requires : goal.raw_at-raw-requires
-raw_at-raw-requires c = search (rules, value_inside)
 
 pub noted-requires : goal.noted-requires
 noted-requires c = search (rules, count_most)
@@ -41,8 +38,8 @@ loop-piece-preserved c =
     let held = c.loop-piece.invariant in
     let turn = noting_turn _ _ _ c.piece_after-piece.ensures c.if-piece.false in
     record {
-      first = turn _ _ held.first _ c.raw_at-raw.ensures _ c.noted.ensures;
-      second = turn _ _ held.second _ c.raw_at-raw.ensures _ c.noted-in-loop-piece.ensures;
-      third = turn _ _ held.third _ c.raw_at-raw.ensures _ c.noted-in-loop-piece-2.ensures;
-      fourth = turn _ _ held.fourth _ c.raw_at-raw.ensures _ c.noted-in-loop-piece-3.ensures;
+      first = turn _ _ held.first _ c.noted.ensures;
+      second = turn _ _ held.second _ c.noted-in-loop-piece.ensures;
+      third = turn _ _ held.third _ c.noted-in-loop-piece-2.ensures;
+      fourth = turn _ _ held.fourth _ c.noted-in-loop-piece-3.ensures;
     }
