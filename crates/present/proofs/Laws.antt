@@ -161,14 +161,13 @@ found_spendable b text {f} e {k} y =
     let z = ticket_live text (decode_table b) (omega (arith, found_low (ticket_slot text (decode_table b)) e y)) in
     record { slot = ticket_slot_lem b y text e; least = rw q z.least; most = rw q z.most; lasts = rw q z.lasts }
 
--- by the ticket's text x, as it is read
-pub presented_at : (b : List ℕ) {text y x : List ℕ} → x ≡ y → y ≡ text → {f : Option ℕ} → f ≡ found_at (ticket_slot x (decode_table b)) → {k : ℕ} → f ≡ Some k
+-- and what is done with it is what the meaning does with its slot
+pub presented_at : (b text : List ℕ) {f : Option ℕ} → f ≡ found_at (ticket_slot text (decode_table b)) → {k : ℕ} → f ≡ Some k
     → (v : Validator) (renew : Bool) (service url g random o o' : List ℕ) (r : Outcome) (b' : List ℕ)
     → Done (ruled (ruling_of v renew service (rec_at k (decode_table b).slots)) v k (rec_at k (decode_table b).slots) service url (bringing g random) (remove k (decode_table b))) r b' o o'
     → Done (presented v (ticket_slot text (decode_table b)) renew service url (bringing g random) (decode_table b)) r b' o o'
 unfolding presented
-presented_at b {text} i j {f} e {k} z v renew service url g random o o' r b' d =
-    let h : f ≡ found_at (ticket_slot text (decode_table b)) = rw (i, j) at e in
-    let q = found_is (ticket_slot text (decode_table b)) h z in
-    let n : eqb k 0 ≡ false = ne_eqb k 0 (λ w. omega (arith, found_low (ticket_slot text (decode_table b)) h z)) in
+presented_at b text {f} e {k} z v renew service url g random o o' r b' d =
+    let q = found_is (ticket_slot text (decode_table b)) e z in
+    let n : eqb k 0 ≡ false = ne_eqb k 0 (λ w. omega (arith, found_low (ticket_slot text (decode_table b)) e z)) in
     rw (sym q) (done_as (rw n) d)

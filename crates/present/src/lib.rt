@@ -4,14 +4,15 @@
 
 ghost use Rattle.std.specs.Prelude.{◌≡◌, ◌≤◌, length};
 ghost use Rattle.protocol.specs.Table.{decode_table};
-ghost use Rattle.protocol.specs.Steps.{failed, grant_or_tell, is_plain, accept_ticket};
+ghost use Rattle.protocol.specs.Steps.{failed, ticket_slot, grant_or_tell, is_plain, accept_ticket};
 ghost use Rattle.protocol.specs.Held.{Fine, In, Said, Does, Lent, bringing, Within, Spendable};
+ghost use Rattle.table_find.specs.Searches.{found_at};
 ghost use Rattle.request.specs.Value.{text_of, spelled};
 ghost use Rattle.xml.specs.Codes.{code_of};
 ghost use Rattle.present.specs.Presented.{Stands, grants_to, burnt, spent, shown};
 
 use protocol::{Brings, Outcome, Ruling, Validator};
-use request::{Spelling, ValidatorQuery};
+use request::{SHORT, Spelling, ValidatorQuery, Value};
 use table_edit::NewRecord;
 use xml::Code;
 
@@ -148,9 +149,18 @@ fn spend(
     }
 }
 
-// A ticket presented for a service, with a callback or an empty one, by what a request names.
-// Not inlined: its texts would stand on the stack of every way of a request.
+// The slot of the live service or proxy ticket that a value names.
+// Not inlined, so that the ticket's text is given back before an answer is written.
 #[inline(never)]
+fn find_given(table: &[u8], ticket: Value<'_, SHORT>) -> Option<usize>
+    requires { Fine table.now }
+    ensures { result ≡ found_at (ticket_slot (spelled ticket.entry) (decode_table table.now)) }
+{
+    let name = ticket.name();
+    table_find::find_ticket(table, name.text())
+}
+
+// A ticket presented for a service, with a callback or an empty one, by what a request names.
 #[tactic(auto, using(table_find::proofs::Laws::found_none), unfolding(protocol::specs::Steps::presented))]
 pub fn show(
     table: &mut [u8],
@@ -164,8 +174,7 @@ pub fn show(
         (spelled query.entry.pgt_url) (bringing brings.entry.register.now brings.entry.random.now))
         result table.old table.new out.old out.new }
 {
-    let name = query.ticket.name();
-    match table_find::find_ticket(table, name.text()) {
+    match find_given(table, query.ticket) {
         Some(slot) => spend(table, validator, slot, query, brings, out),
         None => fail(validator, Code::InvalidTicket, out),
     }
