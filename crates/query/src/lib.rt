@@ -29,7 +29,7 @@ pub struct Reader<'a> {
 }
 
 // What a walk notes of a name: how many pieces have it, and where the raw value of the first lies; `raw_at` is that part of the query.
-// Places and no slice: who writes over the query, or wipes a password in it, has let its borrow go and still knows where the value stands.
+// Places and no slice: whoever writes over the query, or wipes a password in it, must let its borrow go first, and still knows where the value stands.
 // No Option: the meaning's `occurrences` counts from 0, its `raw_value` is empty for an absent name, and neither may change.
 #[derive(Clone, Copy)]
 pub struct Place {
@@ -160,7 +160,7 @@ pub fn piece_after(query: &[u8], place: Piece) -> Piece
 }
 
 // A piece of some name noted for one that is wanted: where it is that, it is one more, and the first one's place is kept.
-#[tactic(auto, using(text::proofs::Laws::same_pointwise), unfolding(crate::specs::Place::noted_by))]
+#[tactic(auto, using(text::proofs::Laws::same_pointwise, text::proofs::Laws::same_turned), unfolding(crate::specs::Place::noted_by))]
 fn noted(place: Place, name: &[u8], wanted: &[u8], from: usize, to: usize) -> Place
     requires { place.count + 1 < 2 ^ 64 }
     ensures { result ≡ noted_by (same name.now wanted.now) from to place }

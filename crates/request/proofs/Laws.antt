@@ -13,7 +13,7 @@ use Rattle.protocol.specs.Bytes.{if, ascii, same, among, all_within}
 use Rattle.protocol.specs.Request.{raw_value, decoded, value_most, chars_right, value_right, bad_name, malformed, login_names, body_names, logout_names, validator_names, proxy_names, value_of, present, Read, Malformed, Given, read_unless, asking, asked, posted, leaving, shown, url_shown, wanted}
 use Rattle.protocol.specs.declared.Validator.{Validator}
 use Rattle.protocol.specs.declared.Validator.TheVariants as validator
-use Rattle.protocol.proofs.Laws.{both, one_test, same-eq, same_refl, part-long}
+use Rattle.protocol.proofs.Laws.{both, part-long}
 use Rattle.text.proofs.Laws.{lengths_differ}
 use Rattle.utf8.proofs.Small.{name_bytes}
 use Rattle.query.specs.Place.{Inside, raw_in, Noted, Walked}
@@ -53,25 +53,17 @@ right_bytes most rule.Username v e = name_bytes v (both (leb (length v) most) (n
 pub text_of_other_length : (v : Spelling) (text : List ℕ) → (v.length ≡ length text → ⊥) → false ≡ same (text_of v) text
 text_of_other_length v text x = lengths_differ (text_of v) text (λ k. x (v.measured ∙ k))
 
--- for callers: two texts are the same either way
-pub same_either : (a b : List ℕ) → same a b ≡ same b a
-same_either a b = one_test (same a b) (same b a) (turned a b) (turned b a)
-  where
-    turned : (x y : List ℕ) → same x y ≡ true → same y x ≡ true
-    turned x y e = let q : x ≡ y = same-eq x y e in rw q (same_refl y)
-
 -- A part of a text is no longer than the text.
 part_short : (q : List ℕ) (p : Place) → Inside q p.from p.to → length (raw_in q p) ≤ length q
 part_short q p i = omega (arith, i, part-long p.from (p.to - p.from) q (omega (arith, i)))
 
 -- A value that was taken from where a walk found its name is the raw value of that name.
 pub stands : {in_body : Bool} {q name : List ℕ} {p : Place} {v : Spelling} → Noted q name p → Taken in_body (raw_in q p) v → Stands in_body q (raw_value name q) v
-stands {q = q} {p = p} n t = record { bytes = t.bytes ∙ n.raw; reading = t.reading; short = rw t.bytes (part_short q p n.inside) }
+stands {q = q} {p = p} n t = record { taken = record { bytes = t.bytes ∙ n.raw; reading = t.reading }; short = rw t.bytes (part_short q p n.inside) }
 
 -- and the callback, which is empty where it is not read
 pub url_stands : {q : List ℕ} {p : Place} {v : Spelling} (w : Validator) → Noted q (ascii "pgtUrl") p → Taken false (callback_in w q p) v → Stands false q (callback_raw w q) v
-unfolding callback_in callback_raw
-url_stands validator.Plain n t = record { bytes = t.bytes; reading = t.reading; short = rw t.bytes (omega arith) }
+url_stands validator.Plain n t = record { taken = t; short = rw t.bytes (omega arith) }
 url_stands validator.Service n t = stands n t
 url_stands validator.Proxy n t = stands n t
 

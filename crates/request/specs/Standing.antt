@@ -17,8 +17,7 @@ pub record Taken (in_body : Bool) (raw : List ℕ) (v : Spelling) : Type 0 where
 
 -- and it is no longer than the text that it was read from
 pub record Stands (in_body : Bool) (q raw : List ℕ) (v : Spelling) : Type 0 where
-  pub bytes : v.raw.now ≡ raw
-  pub reading : v.in_body ≡ in_body
+  pub taken : Taken in_body raw v
   pub short : length v.raw.now ≤ length q
 
 -- login, GET
@@ -37,7 +36,7 @@ abbrev pub StandsLeaving : List ℕ → Spelling → Type 0
 StandsLeaving q url = Stands false q (raw_value (ascii "url") q) url
 
 -- the callback of a validator, which /cas/validate does not read
-unfoldable pub callback_raw : Validator → List ℕ → List ℕ
+abbrev pub callback_raw : Validator → List ℕ → List ℕ
 callback_raw validator.Plain q = []
 callback_raw validator.Service q = raw_value (ascii "pgtUrl") q
 callback_raw validator.Proxy q = raw_value (ascii "pgtUrl") q

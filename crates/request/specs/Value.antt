@@ -36,7 +36,7 @@ callback_as validator.Plain q p = Some []
 callback_as validator.Service q p = judged_as 200 false rule.Plain q p
 callback_as validator.Proxy q p = judged_as 200 false rule.Plain q p
 
-unfoldable pub callback_in : Validator → List ℕ → Place → List ℕ
+abbrev pub callback_in : Validator → List ℕ → Place → List ℕ
 callback_in validator.Plain q p = []
 callback_in validator.Service q p = raw_in q p
 callback_in validator.Proxy q p = raw_in q p

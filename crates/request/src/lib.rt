@@ -101,7 +101,7 @@ fn judged<'a, const MOST: usize>(
 }
 
 // The callback's name, which /cas/validate does not use.
-#[tactic(auto, unfolding(crate::specs::Value::callback_as, crate::specs::Value::callback_in, protocol::specs::Request::decoded_from, protocol::specs::Bytes::all_within))]
+#[tactic(auto, unfolding(crate::specs::Value::callback_as, protocol::specs::Request::decoded_from, protocol::specs::Bytes::all_within))]
 fn judged_callback<'a>(validator: Validator, q: &'a [u8], place: Place) -> Option<Value<'a, LONG>>
     requires { Inside q.now place.from place.to }
     ensures spells { option_map spelled result ≡ callback_as validator q.now place }

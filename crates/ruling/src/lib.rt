@@ -29,7 +29,7 @@ fn proxy_parent(table: &[u8], slot: usize) -> u16
 }
 
 // The ticket in a slot, for a service: a proxy ticket where none is taken, then renew without the mark, then another service.
-#[tactic(auto, using(request::proofs::Laws::same_either), unfolding(protocol::specs::Steps::ruling_of))]
+#[tactic(auto, using(text::proofs::Laws::same_either), unfolding(protocol::specs::Steps::ruling_of))]
 pub fn ruling_of(
     table: &[u8],
     slot: usize,

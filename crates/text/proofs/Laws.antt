@@ -16,7 +16,7 @@ use Rattle.std.specs.Cmp.Lexicographic.{pointwise}
 use Rattle.protocol.specs.Bytes.{if, same, holds, up_to, cut_at, zeros, hex_digit, hex, spliced}
 use Rattle.protocol.specs.Answers.{escaped_byte, escaped}
 use Rattle.protocol.specs.Written.{Room, Wrote}
-use Rattle.protocol.proofs.Laws.{drop-step}
+use Rattle.protocol.proofs.Laws.{drop-step, one_test, same-eq, same_refl}
 use Rattle.text.specs.First.{FirstAt}
 use Rattle.protocol.proofs.Sizes.{length-spliced}
 use Rattle.text.proofs.Splice.{Left, left_room, left_put, left_byte, left_lt, left_done}
@@ -116,6 +116,17 @@ same_pointwise [] [] = refl
 same_pointwise [] (y ∷ b) = refl
 same_pointwise (x ∷ a) [] = refl
 same_pointwise (x ∷ a) (y ∷ b) = ap (λ (t : Bool). eqb x y && t) (same_pointwise a b)
+
+-- two texts are the same either way
+pub same_either : (a b : List ℕ) → same a b ≡ same b a
+same_either a b = one_test (same a b) (same b a) (turned a b) (turned b a)
+  where
+    turned : (x y : List ℕ) → same x y ≡ true → same y x ≡ true
+    turned x y e = let q : x ≡ y = same-eq x y e in rw q (same_refl y)
+
+-- and so `==` is it the other way round
+pub same_turned : (a b : List ℕ) → pointwise nat_eq a b ≡ same b a
+same_turned a b = same_pointwise a b ∙ same_either a b
 
 -- what stands from a place on, as `&text[at..]` has it
 pub tail_part : (s : List ℕ) (at : ℕ) → take (length s - at) (drop at s) ≡ drop at s
