@@ -2,21 +2,23 @@
 use mathlib.Core.Path.{◌≡◌, refl, sym, ap, ◌∙◌}
 use mathlib.Core.Bool.{Bool, true, false}
 use mathlib.Core.List.{List, []}
-use Prim.Native.Nat.{ℕ, suc, ◌+◌, ◌-◌, ◌^◌, ◌≤◌, ◌<◌}
+use Prim.Native.Nat.{ℕ, suc, ◌+◌, ◌-◌, ◌≤◌, ◌<◌}
 use native.Mathlib.Numerals.{add-one}
 use native.Mathlib.Omega.{arith}
 use borrow.Author.Tests.{eqb-true, ne_eqb}
 use lib.Dec.{eqb}
 use lib.ListN.{length, take, drop}
+use Rattle.std.specs.Prelude.{Some, None}
 use Rattle.protocol.specs.Bytes.{if, same, up_to, part}
 use Rattle.protocol.specs.Request.{pieces, name_in, value_in, count_named, first_named, occurrences, raw_value, path_named, path_part, query_part}
 use Rattle.protocol.specs.declared.Path.{Path}
 use Rattle.protocol.proofs.Pieces.{take-up_to, past-drop}
 use Rattle.text.specs.First.{FirstAt}
 use Rattle.text.proofs.Laws.{tail_part}
-use Rattle.query.specs.Piece.{piece_at, piece_after}
+use Rattle.query.specs.Piece.{piece_at, piece_after, gives_piece}
 use Rattle.query.specs.Place.{Inside, noted_by, raw_in, Noted, Walked}
 use Rattle.query.specs.declared.Piece.{Piece}
+use Rattle.query.specs.declared.Reader.{Reader}
 use Rattle.query.specs.declared.Place.{Place}
 use Rattle.query.specs.declared.Places.{Places}
 use Rattle.query.proofs.Pieces.{Found, told_end, told_piece, drop_end}
@@ -97,12 +99,6 @@ module _ (q : List ℕ) (p r : Piece) (e : r ≡ piece_after q p) where
     goes_on = omega (arith, piece)
 
     module _ (name : List ℕ) (w : Place) (n : Noting q name p.end w) where
-      count_fits : w.count < r.value
-      count_fits = omega (arith, piece, n.most)
-
-      pub count_most : r.value < 2 ^ 64 → w.count + 1 < 2 ^ 64
-      count_most h = omega (arith, count_fits)
-
       abbrev left : List (List ℕ)
       left = pieces (drop r.end q)
 
@@ -144,3 +140,24 @@ module _ (q : List ℕ) (p r : Piece) (e : r ≡ piece_after q p) where
           (n.count ∙ ap (λ (ps : List (List ℕ)). w.count + count_named name ps) piece.first ∙ ap (λ (b : Bool). w.count + (if b 1 0 + count_named name left)) h)
           (n.raw ∙ ap (λ (ps : List (List ℕ)). if (eqb w.count 0) (first_named name ps) (raw_in q w)) piece.first
           ∙ ap (λ (b : Bool). if (eqb w.count 0) (if b value (first_named name left)) (raw_in q w)) h))
+
+-- what a reader of the query gives
+module _ (q : List ℕ) (r s : Reader) (h : r.query.now ≡ q) where
+  stands_at : s.place ≡ piece_after r.query.now r.place → s.place ≡ piece_after q r.place
+  stands_at e = e ∙ ap (λ (l : List ℕ). piece_after l r.place) h
+
+  pub given_none : gives_piece r None s → (a b c d : List ℕ) (w : Places) → Walking q a b c d r.place.end w → Walked q a b c d w
+  given_none g = walked q r.place s.place (stands_at g.1) g.2
+
+  module _ (p : Piece) (g : gives_piece r (Some p) s) where
+    pub given_next : p ≡ piece_after q r.place
+    given_next = g.2.0 ∙ stands_at g.1
+
+    pub given_some : p.start ≡ p.end → ⊥
+    given_some = rw (g.2.0) (g.2.1)
+
+    pub given_starts : p.start ≤ p.mid
+    given_starts = name_starts q r.place p given_next given_some
+
+    pub given_ends : p.mid ≤ length q
+    given_ends = name_ends q r.place p given_next given_some

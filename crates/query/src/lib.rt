@@ -1,6 +1,6 @@
 // The path of a target, where its query starts, and the names of a query or body, found in one walk over its pieces. A reader
-// that holds the query and its place goes from piece to piece. Its step is thin: the work is `next_piece`, on a plain slice and
-// a place, and whoever calls `piece_after` has plain parameters too.
+// that holds the query and its place goes from piece to piece, and gives them one by one. Its step is thin: the work is
+// `next_piece`, on a plain slice and a place, and whoever calls `piece_after` has plain parameters too.
 #![tactic(auto)]
 
 ghost use Rattle.std.specs.Prelude.{◌≡◌, ◌+◌, ◌-◌, ◌<◌, ◌^◌, drop};
@@ -12,7 +12,7 @@ ghost use Rattle.query.specs.Place.{Inside, noted_by, Walked};
 use protocol::{Path, Validator};
 
 // A piece: its name runs from `start` to `mid`, its raw value from `value` to `end`. An empty one stands for none.
-// Document 01 names this form: a reader that holds the query slice and a position, and one thin step. So a piece is places, and none an empty one.
+// Four places, and an empty one for none: the definition `piece_after`, of which the contracts of the steps speak and which may not change, answers so.
 #[derive(Clone, Copy)]
 pub struct Piece {
     pub start: usize,
@@ -21,7 +21,7 @@ pub struct Piece {
     pub end: usize,
 }
 
-// The piece that a reader stands on is its place.
+// The piece that a reader stands on is its place. Document 01 names this form, a struct with the query slice and a position, and its one thin step.
 #[derive(Clone, Copy)]
 pub struct Reader<'a> {
     pub query: &'a [u8],
@@ -38,7 +38,7 @@ pub struct Place {
     pub to: usize,
 }
 
-// The same of four names.
+// The same of four names. Four fields, and no array: the contract of `walk` speaks of four names, each by itself (`Walked`), and may not change.
 #[derive(Clone, Copy)]
 pub struct Places {
     pub a: Place,
@@ -47,8 +47,8 @@ pub struct Places {
     pub d: Place,
 }
 
-// Which path a text is. By `text::same`, since `==` takes no array beside a slice. (A match on byte strings: tried, and the proof
-// didn't close, since it is tested byte by byte.)
+// Which path a text is. By `text::same`, since the edit `text/compared_by_prefix`, which keeps its meaning, is the server that takes a path by its
+// beginning; `==` with `as_slice()` is no plainer. (A match on byte strings: tried, and the proof didn't close, since it is tested byte by byte.)
 #[tactic(auto, using(crate::proofs::Laws::rung_yes, crate::proofs::Laws::rung_no), unfolding(protocol::specs::Request::path_named))]
 pub fn path_named(path: &[u8]) -> Path
     ensures { result ≡ path_named path.now }
@@ -153,6 +153,26 @@ pub fn next<'a>(r: Reader<'a>) -> Reader<'a>
     }
 }
 
+// Each call gives the next piece, until none is left.
+impl<'a> Iterator for Reader<'a> {
+    ghost use Rattle.std.specs.Prelude.{length};
+    ghost use Rattle.std.specs.Iterator.{at_most};
+    ghost use Rattle.query.specs.Piece.{gives_piece};
+
+    type Item = Piece;
+
+    ghost next_gives = { gives_piece };
+
+    ghost remaining = { λ r. at_most (length r.query.now - r.place.end) };
+
+    #[tactic(auto, using(crate::proofs::Laws::goes_on))]
+    fn next(&mut self) -> Option<Piece> {
+        let piece = piece_after(self.query, self.place);
+        self.place = piece;
+        (piece.start != piece.end).then_some(piece)
+    }
+}
+
 pub fn piece_after(query: &[u8], place: Piece) -> Piece
     ensures { result ≡ piece_after query.now place }
 {
@@ -175,8 +195,7 @@ fn noted(place: Place, name: &[u8], wanted: &[u8], from: usize, to: usize) -> Pl
     place
 }
 
-// The walk: every piece once, and four names noted at each.
-// Its loop goes by the reader's one thin step, the form that document 01 names.
+// The walk: every piece once, and four names noted at each. Who asks for fewer gives an empty name, and does not look at what is noted of it.
 pub fn walk(q: &[u8], a: &[u8], b: &[u8], c: &[u8], d: &[u8]) -> Places
     ensures { Walked q.now a.now b.now c.now d.now result }
 {
@@ -191,17 +210,13 @@ pub fn walk(q: &[u8], a: &[u8], b: &[u8], c: &[u8], d: &[u8]) -> Places
         c: none,
         d: none,
     };
-    let mut piece = Piece {
+    let place = Piece {
         start: 0,
         mid: 0,
         value: 0,
         end: 0,
     };
-    loop {
-        piece = piece_after(q, piece);
-        if piece.start == piece.end {
-            return at;
-        }
+    for piece in (Reader { query: q, place }) {
         let name = &q[piece.start..piece.mid];
         at = Places {
             a: noted(at.a, name, a, piece.value, piece.end),
@@ -210,6 +225,7 @@ pub fn walk(q: &[u8], a: &[u8], b: &[u8], c: &[u8], d: &[u8]) -> Places
             d: noted(at.d, name, d, piece.value, piece.end),
         };
     }
+    at
 }
 
 // The raw value at a place: that part of the caller's own bytes.
