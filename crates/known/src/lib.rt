@@ -10,7 +10,8 @@ ghost use Rattle.known.specs.Standing.{standing};
 
 use request::Spelling;
 
-// The first block that has the service, if any.
+// The first block that has the service, if any. Not one function with `register::place_of`, which compares bytes where this decodes on the way:
+// both are the library's `find` with a closure, and a function of both would hold that one line, with clauses on what is passed in.
 fn standing(register: &[u8], service: Spelling<'_>) -> Option<usize>
     ensures { result ≡ standing (text_of service.entry) (decode_register register.now) }
 {
@@ -18,7 +19,8 @@ fn standing(register: &[u8], service: Spelling<'_>) -> Option<usize>
     (0..m).find(|k| service.is_text(register::service_at(register, *k)))
 }
 
-// The service where it is registered, else nothing.
+// The service where it is registered, else nothing. Nothing is an empty text: so in the meaning's `link_to`, and in its `callback_of` for the
+// callback below; neither may change. Both functions find the block by `standing`, and each hands out another part of it.
 #[tactic(auto, using(crate::proofs::Laws::place_inside))]
 pub fn service_of<'a, 'b>(register: &'a [u8], service: Spelling<'b>) -> &'a [u8]
     ensures { result.now ≡ link_to (text_of service.entry) (decode_register register.now) }

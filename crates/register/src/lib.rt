@@ -102,7 +102,8 @@ fn block_at<'a>(b: &'a [u8], k: usize) -> &'a [u8; 512]
     &blocks[k]
 }
 
-// The service of block k, where it stands.
+// The service of block k, where it stands. Register and block go together here and below, and are two: the meaning's `service_in` and `at_fault`,
+// which may not change, speak of both.
 #[tactic(auto, unfolding(protocol::specs::Panels::service_in))]
 pub fn service_at<'a>(b: &'a [u8], k: usize) -> &'a [u8]
     requires { 512 * k + 512 ≤ length b.now }
@@ -120,7 +121,7 @@ pub fn callback_at<'a>(b: &'a [u8], k: usize) -> &'a [u8]
     callback_in(block_at(b, k))
 }
 
-// The first block that has a service.
+// The first block that has a service. Not one function with the search of `known`, which decodes what it compares: both are the library's `find`.
 fn place_of(b: &[u8], service: &[u8]) -> Option<usize>
     ensures { result ≡ if_below (length b.now / 512) (place_of service.now (decode_register b.now)) }
 {

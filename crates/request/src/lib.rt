@@ -55,7 +55,8 @@ pub struct ProxyQuery<'a> {
 }
 
 // Which bytes a value may have: those of plain text, any, or those of a name in UTF-8.
-// Named, and no closure: `right_by`, of which the clauses below speak, tells the three apart by name.
+// Named, and no closure. Tried, with the function passed in: `judged` proves with two clauses more, but at the one of its fifteen calls that was
+// tried two goals stayed open (`judged-requires`, `returns-clause-spells`), and `right_by`, of which the clauses speak, still tells three by name.
 #[derive(Clone, Copy)]
 enum Rule {
     Plain,
@@ -122,6 +123,7 @@ fn judged_callback<'a>(validator: Validator, q: &'a [u8], place: Place) -> Optio
     }
 }
 
+// A walk takes four names, since its contract speaks of four: here and below the names that a path does not use are empty, and are not looked at.
 pub fn login_query<'a>(q: &'a [u8]) -> Option<LoginQuery<'a>>
     ensures spells { spelled_asked result ≡ asked q.now }
     ensures stands { IfSome result (λ a. StandsAsked q.now a) }

@@ -68,6 +68,7 @@ impl<'a> Value<'a, SHORT> {
     ghost use Rattle.request.specs.Value.{spelled};
 
     // Decodes it to a name held by value.
+    // Not one with `ticket::name` and `iou`: what they share is the array and the literal, and what fills it differs.
     #[tactic(auto, using(text::proofs::Splice::read_back))]
     pub fn name(self) -> Name
         ensures { named result ≡ spelled self.entry }
