@@ -13,6 +13,7 @@ use protocol::{Answer, Outcome};
 use xml::Code;
 
 // The number of an answer's case: 0 none, 1 page, 2 redirect, 3 text, 4 XML, 5 callback.
+// It, the data, the status and the serial are four functions and no `From`: each makes another number of one answer, by the meaning's four definitions.
 pub fn number_of(a: Answer) -> u32
     ensures { result ≡ number_of a }
 {
@@ -95,6 +96,8 @@ pub fn with_cleared(r: Outcome, ended: bool) -> Outcome
 }
 
 // Here and below the output is a slice, and its room a clause: C lends it, it may be longer than 8,192 bytes, and `Said` speaks of all of it.
+// A text of at most 64 or 200 bytes is a slice with a clause, too: a type of such texts would ask more of who calls, and for 200 bytes there is none.
+// A status is a number: so in `Outcome`, the result of document 01, and in the meaning's `ErrorPage` and `FormPage`, which may not change.
 pub fn say_page(out: &mut [u8], status: u32) -> Outcome
     requires { 8192 ≤ length out.old }
     ensures { Said (ErrorPage status) result out.old out.new }
@@ -156,6 +159,7 @@ pub fn say_word(out: &mut [u8], yes: bool) -> Outcome
     told(Answer::Text(yes), n)
 }
 
+// A failure of the validators, and one of proxy below: the meaning has `Failure` and `ProxyFailure` apart, and each says its own.
 pub fn say_failure(out: &mut [u8], code: Code) -> Outcome
     requires { 8192 ≤ length out.old }
     ensures { Said (Failure (code_of code)) result out.old out.new }

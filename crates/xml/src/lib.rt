@@ -24,6 +24,9 @@ pub enum Code {
 }
 
 // The outer element begins every answer.
+// What stands between an opening and a closing below is a date, a text, or a text escaped: one function for all would take what writes it as
+// a closure, and say no more than the three calls. Texts of at most 64 or 200 bytes are slices with a clause: a type of such texts would ask
+// more of who calls.
 fn put_open(out: &mut [u8]) -> usize
     requires { Room out.old 0 response_open }
     ensures { Wrote out.old 0 out.new result response_open }
@@ -116,7 +119,7 @@ fn put_failure_by(out: &mut [u8], element: &[u8], code: Code) -> usize
     }
 }
 
-// What the validators answer.
+// What the validators answer, and below what proxy does: the meaning has `Failure` and `ProxyFailure` apart, and `put_failure_by` is what both share.
 pub fn put_failure(out: &mut [u8], code: Code) -> usize
     requires { 8192 ≤ length out.old }
     ensures { Wrote out.old 0 out.new result (reply_text (Failure (code_of code))) }
@@ -177,6 +180,7 @@ fn put_word(out: &mut [u8], at: usize, word: &[u8]) -> usize
     text::put_bytes(out, to, b"</cas:isFromNewLogin>\n    </cas:attributes>\n")
 }
 
+// The mark is a number: so in the meaning's `mark_text`, which may not change.
 fn put_mark(out: &mut [u8], at: usize, mark: u8) -> usize
     requires { Room out.old at (login_part (mark_text mark)) }
     ensures { Wrote out.old at out.new result (login_part (mark_text mark)) }
