@@ -12,6 +12,7 @@ use ticket::Kind;
 use xml::Code;
 
 // Success of the waiting grant in a slot: its session's user, by the mark that it keeps, an IOU if it is not empty, and the proxies from its parent on.
+// The IOU is a slice of at most 64 bytes, and no `Name`: where there is none, `remove` gives an empty text, as the meaning's `success_of` has it.
 #[tactic(auto, using(crate::proofs::Laws::waits_session, success::proofs::Links::parent_within))]
 fn tell(table: &[u8], slot: usize, iou: &[u8], out: &mut [u8]) -> Outcome
     requires { (Waits slot table.now) × (length iou.now ≤ 64) × (8192 ≤ length out.old) }

@@ -87,6 +87,8 @@ fn is_plain(validator: Validator) -> bool
 }
 
 // A ticket accepted, which can no longer be presented.
+// Validator, query and what is brought go together through `show`, `spend` and here alone, and two of them are structs already: one of all three
+// would be taken apart in each.
 #[tactic(auto, unfolding(protocol::specs::Steps::accept_ticket))]
 fn accept(
     table: &mut [u8],

@@ -17,7 +17,7 @@ use request::{ProxyQuery, SHORT, Value};
 use ticket::Kind;
 use xml::Code;
 
-// Under the live grant in slot k. An empty target is one that is not registered.
+// Under the live grant in slot k. An empty target is one that is not registered: so it is in the meaning's `link_to`, by which `known` answers it.
 #[tactic(auto, using(issue::proofs::Laws::none_given), unfolding(crate::specs::Asking::proxy_under))]
 fn under(table: &mut [u8], k: usize, target: &[u8], random: &[u8; 48], out: &mut [u8]) -> Outcome
     requires { (Offer table.old target.now out.old) × (Live k table.old) }

@@ -10,7 +10,7 @@ ghost use Rattle.protocol.specs.Calls.{brought_by};
 
 use protocol::{Brings, Method, Outcome, Path};
 
-// No such path, and no such method on it.
+// No such path, and no such method on it. Numbers: so a status is in the meaning's `ErrorPage`, which may not change.
 const NOT_FOUND: u32 = 404;
 
 const NOT_TAKEN: u32 = 405;

@@ -17,7 +17,8 @@ fn refuses_proxies(validator: Validator) -> bool
     !matches!(validator, Validator::Proxy)
 }
 
-// A proxy ticket's proxies start at its parent; a service ticket has none.
+// A proxy ticket's proxies start at its parent; a service ticket has none. Parent 0 for none and the mark are numbers: so in the table's format and in
+// the meaning's `proxy_parent` and `ruling_of`, which may not change.
 fn proxy_parent(table: &[u8], slot: usize) -> u16
     requires { In slot table.now }
     ensures { result ≡ proxy_parent (said_at slot table.now) }
