@@ -23,9 +23,6 @@ only_said {b = b} f s = said_done (holds_self b f) s
 pub done_as : {s s' : Step} {r : Outcome} {b o o' : List ℕ} → s ≡ s' → Done s r b o o' → Done s' r b o o'
 done_as {r = r} {b = b} {o = o} {o' = o'} e d = rw e at d
 
-pub did_as : {s s' : Step} {r : Outcome} {b o o' c c' : List ℕ} → s ≡ s' → Did s r b o o' c c' → Did s' r b o o' c c'
-did_as {r = r} {b = b} {o = o} {o' = o'} {c = c} {c' = c'} e d = rw e at d
-
 -- a step that writes no cookie leaves the cookie output as it was
 pub done_did : {s : Step} {r : Outcome} {b o o' : List ℕ} (c : List ℕ) → Done s r b o o' → Did s r b o o' c c
 unfolding spliced
