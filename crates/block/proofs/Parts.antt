@@ -1,12 +1,13 @@
 -- A block in the middle of a table. Assumes nothing.
-use mathlib.Core.Path.{◌≡◌, sym, ap, ◌∙◌}
+use mathlib.Core.Path.{◌≡◌, refl, sym, ap, ◌∙◌}
 use mathlib.Core.Bool.{Bool}
 use mathlib.Core.List.{List, ◌++◌, append-nil}
-use Prim.Native.Nat.{ℕ, ◌+◌, ◌*◌, ◌-◌, ◌≤◌}
+use Prim.Native.Nat.{ℕ, zero, suc, ◌+◌, ◌*◌, ◌-◌, ◌/◌, ◌≤◌, ◌<◌}
 use native.Mathlib.Omega.{arith}
 use lib.Dec.{eqb, lit≤}
-use lib.ListN.{length, take, drop, length-drop}
+use lib.ListN.{length, take, drop, get_or, length-drop}
 use lib.Seq.{drop-drop, drop_at, take-take, take-add, length-take-le}
+use Rattle.std.specs.Simd.{first_chunks}
 use Rattle.protocol.specs.Bytes.{part, num, zeros}
 use Rattle.protocol.specs.Blocks.{house_check, check_right}
 use Rattle.protocol.proofs.Laws.{part-long}
@@ -22,6 +23,17 @@ part-part s a k b m h g =
     ∙ (drop_at (take b (drop a s)) (take (k - b) (drop b (drop a s))) b (length-take-le b (drop a s) (rw length-drop (omega arith)))
     ∙ rw drop-drop)) in
     rw d (take-take m (k - b) (drop (a + b) s) (omega arith))
+
+-- a block among the chunks is its part of the whole
+chunk_at : (m k : ℕ) (b d : List ℕ) → k < m → get_or (first_chunks 512 m b) k d ≡ part (512 * k) 512 b
+chunk_at zero k b d h = absurd (omega arith)
+chunk_at (suc m) zero b d h = refl
+chunk_at (suc m) (suc k) b d h =
+    let e : 512 + 512 * k ≡ 512 * suc k = omega arith in
+    chunk_at m k (drop 512 b) d (omega arith) ∙ rw (drop-drop (512 * k) 512 b, e)
+
+pub block_lent : (b d : List ℕ) (k : ℕ) {s : List (List ℕ)} → 512 * k + 512 ≤ length b → s ≡ first_chunks 512 (length b / 512) b → get_or s k d ≡ part (512 * k) 512 b
+block_lent b d k h c = rw c (chunk_at (length b / 512) k b d (omega arith))
 
 -- the test of a block from the check of its first part, taken from the table, and the number after it
 pub right_in_place : (t : List ℕ) (k u : ℕ) {x y : ℕ} → 512 * k + 512 ≤ length t → u ≤ 508

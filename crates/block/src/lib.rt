@@ -1,4 +1,4 @@
-// The house block: little-endian fields in place, and the check of a block. Everything works on a part of the caller's bytes.
+// The house block: lent where it stands, little-endian fields in place, and the check of a block. Everything works on a part of the caller's bytes.
 #![tactic(auto)]
 
 ghost use Rattle.std.specs.Prelude.{◌≡◌, [], ◌∷◌, ◌++◌, ◌+◌, ◌-◌, ◌*◌, ◌≤◌, ◌<◌, ◌^◌, length, take, ℕ};
@@ -117,7 +117,8 @@ pub fn all_within(s: &[u8], lo: u8, hi: u8) -> bool
 
 // ---- fields written
 
-// One writer for every width: from the lowest byte up. A loop and no `to_le_bytes`, which has eight bytes: a field may be longer.
+// One writer for every width: from the lowest byte up. A loop and no `to_le_bytes`, which has eight bytes: the clause lets n be any number, and
+// may not ask more.
 #[tactic(auto, using(crate::proofs::Laws::put_start, crate::proofs::Laws::put_more, crate::proofs::Laws::put_done))]
 pub fn put(s: &mut [u8], at: usize, n: usize, v: u64)
     requires { at + n ≤ length s.old }
@@ -169,6 +170,21 @@ pub fn pad_at(s: &mut [u8], at: usize, n: usize, src: &[u8])
     copy_at(s, at, src);
     let used = src.len();
     zeros_at(s, at + used, n - used);
+}
+
+// ---- a block of a table
+
+// Bytes and number are two parameters here and below, and no struct: `part`, `service_in` and `said_at` of protocol, which may not change, take
+// the two apart.
+
+// The block of a number, a part of the caller's own bytes.
+#[tactic(auto, using(crate::proofs::Parts::block_lent))]
+pub fn block_at<'a>(s: &'a [u8], k: usize) -> &'a [u8; 512]
+    requires { 512 * k + 512 ≤ length s.now }
+    ensures { result.now ≡ part (512 * k) 512 s.now }
+{
+    let (blocks, _) = s.as_chunks::<512>();
+    &blocks[k]
 }
 
 // ---- the check

@@ -8,12 +8,11 @@ use native.Mathlib.Omega.{arith}
 use borrow.Author.Tests.{eq-eqb, eqb-true, eqb-false, lt-ltb, le-ltb, ltb-true, ltb-false}
 use lib.Dec.{eqb, ltb}
 use lib.Pointwise.{pointwise}
-use lib.ListN.{length, take, drop, get_or}
+use lib.ListN.{length, take, drop}
 use lib.Seq.{drop-drop, take_all}
 use Rattle.std.specs.Prelude.{Option, Some, None, is_some, is_none}
 use Rattle.std.specs.Option.{option_map}
 use Rattle.std.specs.List.{starts_with, find, range_with_len}
-use Rattle.std.specs.Simd.{first_chunks}
 use Rattle.protocol.specs.Bytes.{if, ascii, same, all_within, part, blocks}
 use Rattle.protocol.specs.Blocks.{check_right}
 use Rattle.protocol.specs.Register.{decode_entry, decode_register, register_shape, register_lawful, registered, callback_of}
@@ -207,17 +206,6 @@ module _ (s b : List ℕ) (p : ℕ) (e : p ≡ place_of s (decode_register b)) w
   pub service_found : p < length b / 512 → s ≡ service_in b p
   unfolding decode_register service_in
   service_found h = same-eq s (decode_entry (part (512 * p) 512 b)).service (service_place s (length b / 512) b p e h)
-
--- `block_at`: a block among the chunks is its part of the whole
-chunk_at : (m k : ℕ) (b d : List ℕ) → k < m → get_or (first_chunks 512 m b) k d ≡ part (512 * k) 512 b
-chunk_at zero k b d h = absurd (omega arith)
-chunk_at (suc m) zero b d h = refl
-chunk_at (suc m) (suc k) b d h =
-    let e : 512 + 512 * k ≡ 512 * suc k = omega arith in
-    chunk_at m k (drop 512 b) d (omega arith) ∙ rw (drop-drop (512 * k) 512 b, e)
-
-pub block_lent : (b d : List ℕ) (k : ℕ) {s : List (List ℕ)} → 512 * k + 512 ≤ length b → s ≡ first_chunks 512 (length b / 512) b → get_or s k d ≡ part (512 * k) 512 b
-block_lent b d k h c = rw c (chunk_at (length b / 512) k b d (omega arith))
 
 -- `registered`
 pub registered_some : (s b : List ℕ) (o : Option ℕ) → o ≡ if_below (length b / 512) (place_of s (decode_register b)) → is_some o ≡ registered s (decode_register b)

@@ -92,15 +92,7 @@ fn block_right(b: &[u8; 512]) -> bool
 
 // ---- services
 
-// Block k, where it stands.
-#[tactic(auto, using(crate::proofs::Laws::block_lent))]
-fn block_at<'a>(b: &'a [u8], k: usize) -> &'a [u8; 512]
-    requires { 512 * k + 512 ≤ length b.now }
-    ensures { result.now ≡ part (512 * k) 512 b.now }
-{
-    let (blocks, _) = b.as_chunks::<512>();
-    &blocks[k]
-}
+// Register and block are two parameters and no struct: `service_in` and `at_fault` of protocol, which may not change, take the two apart.
 
 // The service of block k, where it stands. Register and block go together here and below, and are two: the meaning's `service_in` and `at_fault`,
 // which may not change, speak of both.
@@ -109,7 +101,7 @@ pub fn service_at<'a>(b: &'a [u8], k: usize) -> &'a [u8]
     requires { 512 * k + 512 ≤ length b.now }
     ensures { result.now ≡ service_in b.now k }
 {
-    service_of(block_at(b, k))
+    service_of(block::block_at(b, k))
 }
 
 // And its callback.
@@ -118,7 +110,7 @@ pub fn callback_at<'a>(b: &'a [u8], k: usize) -> &'a [u8]
     requires { 512 * k + 512 ≤ length b.now }
     ensures { result.now ≡ callback_in b.now k }
 {
-    callback_in(block_at(b, k))
+    callback_in(block::block_at(b, k))
 }
 
 // The first block that has a service. Not one function with the search of `known`, which decodes what it compares: both are the library's `find`.
@@ -143,7 +135,7 @@ fn at_fault(b: &[u8], k: usize) -> bool
     requires { 512 * k + 512 ≤ length b.now }
     ensures { result ≡ at_fault b.now k }
 {
-    !block_right(block_at(b, k)) || registered(&b[..512 * k], service_at(b, k))
+    !block_right(block::block_at(b, k)) || registered(&b[..512 * k], service_at(b, k))
 }
 
 // The first block at fault.
@@ -154,6 +146,8 @@ fn first_fault(b: &[u8]) -> Option<usize>
     (0..m).find(|k| at_fault(b, *k))
 }
 
+// No one function for this and the ticket table's shape: `register_shape` and `table_shape` of protocol, which may not change, differ in their
+// limits alone, and two functions that name these would still be left.
 fn shape_right(n: usize) -> bool
     ensures { result ≡ register_shape n }
 {

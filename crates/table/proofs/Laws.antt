@@ -9,7 +9,6 @@ use lib.Dec.{eqb, lit≤}
 use lib.ListN.{length, take, drop, get_or, length-append, length-take, length-drop, length-replicate, drop_of_length-le, get_or-eq_default}
 use lib.Seq.{drop-cons, drop-drop, take_at, drop_at, length-take-le}
 use Rattle.std.specs.List.{filter, range_with_len}
-use Rattle.std.specs.Simd.{first_chunks}
 use Rattle.std.specs.Prelude.{Option, Some, MatchOption}
 use Rattle.std.specs.Array.{IsFirstChunk}
 use Rattle.std.specs.Borrow.{MutBor}
@@ -33,22 +32,11 @@ use Rattle.table.proofs.Free.{free_bytes}
 
 -- Reading
 
--- one of the chunks that a text begins with
-chunk_at : (n m k : ℕ) (b d : List ℕ) → k < m → get_or (first_chunks n m b) k d ≡ part (n * k) n b
-chunk_at n zero k b d h = absurd (omega arith)
-chunk_at n (suc m) zero b d h = let e : n * 0 ≡ 0 = omega arith in rw e
-chunk_at n (suc m) (suc k) b d h =
-    let e : n * suc k ≡ n + n * k = omega arith in
-    chunk_at n m k (drop n b) d (omega arith) ∙ rw (drop-drop (n * k) n b, e)
-
-slot_block : (t : List ℕ) (k : ℕ) → In k t → k < length t / 512
-slot_block t k i = omega (arith, i.high)
-
-pub block_lent : (t d : List ℕ) (k : ℕ) {s : List (List ℕ)} → In k t → s ≡ first_chunks 512 (length t / 512) t → Block k t (get_or s k d)
+pub block_said : (t b : List ℕ) (k : ℕ) → In k t → b ≡ part (512 * k) 512 t → Block k t b
 unfolding decode_rec
-block_lent t d k i c =
+block_said t b k i e =
     let s : decode_rec (part (512 * k) 512 t) ≡ said_at k t = sym (slot_of t k i) in
-    rw (c, chunk_at 512 (length t / 512) k t d (slot_block t k i)) (record {
+    rw e (record {
       is = refl;
       size = length-take-le 512 (drop (512 * k) t) (omega (arith, length-drop (512 * k) t, i.high));
       says = s;
@@ -305,9 +293,12 @@ pub lent_rec : (t front rest y : List ℕ) (k : ℕ) (r : Rec) → Fine t → In
     → Holds (front ++ (y ++ drop 512 rest)) (put k r (decode_table t))
 lent_rec t front rest y k r f i s p q e = laid_rec t _ k r f i s (block_back t front rest y (encode_rec r) (512 * k) (length_rec r s.sized) p q e)
 
-pub lent_free : (t front rest y : List ℕ) (k : ℕ) → Fine t → In k t → front ≡ take (512 * k) t → rest ≡ drop (512 * k) t → y ≡ encode_rec free_rec
-    → Holds (front ++ (y ++ drop 512 rest)) (remove k (decode_table t))
-lent_free t front rest y k f i p q e = lent_rec t front rest y k free_rec f i free_fits p q e
+pub lent_free : (t front rest y : List ℕ) (k : ℕ) → front ≡ take (512 * k) t → rest ≡ drop (512 * k) t → y ≡ encode_rec free_rec
+    → front ++ (y ++ drop 512 rest) ≡ spliced t (512 * k) (encode_rec free_rec)
+lent_free t front rest y k p q e = block_back t front rest y (encode_rec free_rec) (512 * k) (length_rec free_rec free_fits.sized) p q e
+
+pub freed : (t t' : List ℕ) (k : ℕ) → Fine t → In k t → t' ≡ spliced t (512 * k) (encode_rec free_rec) → Holds t' (remove k (decode_table t))
+freed t t' k f i e = laid_rec t t' k free_rec f i free_fits e
 
 -- numbers of their types fit a record
 pub fields_fit : (r : Record) → r.fields.parent < 65536 → r.fields.session < 65536 → r.fields.serial < 4294967296 → r.fields.expiry < 18446744073709551616
@@ -316,15 +307,13 @@ fields_fit r p s n e w =
     let z : Sized (rec_of r) = record { secret = length_pad 16 r.secret.now r.secret_fits; text = r.text_fits; iou = length_pad 16 r.iou.now r.iou_fits } in
     record { parent = p; session = s; serial = n; expiry = e; since = w; sized = z }
 
-pub lent_head : (t y : List ℕ) (n c x : ℕ) → Fine t → c ≤ last_time → x < 4294967296 → n ≡ length t / 512 - 1 → y ≡ sealed (head_body n c x)
-    → Holds (y ++ drop 512 t) (table_of c x (decode_table t).slots)
+pub lent_head : (t y : List ℕ) (n c x : ℕ) → y ≡ sealed (head_body n c x) → y ++ drop 512 t ≡ spliced t 0 (sealed (head_body n c x))
 unfolding spliced
-lent_head t y n c x f h g m e =
-    let k : n ≡ length (decode_table t).slots = m ∙ sym (slots_count t) in
-    let l : 512 ≡ 0 + length y = sym (omega (arith, ap length e, length_head n c x)) in
-    let q : y ++ drop 512 t ≡ spliced t 0 y = rw l in
-    let d : y ≡ sealed (head_body (length (decode_table t).slots) c x) = rw k at e in
-    laid_head t (y ++ drop 512 t) c x f h g (q ∙ ap (spliced t 0) d)
+lent_head t y n c x e = let l : 0 + length (sealed (head_body n c x)) ≡ 512 = omega (arith, length_head n c x) in rw (l, e)
+
+pub headed : (t t' : List ℕ) (n c x : ℕ) → Fine t → c ≤ last_time → x < 4294967296 → n ≡ length t / 512 - 1 → t' ≡ spliced t 0 (sealed (head_body n c x))
+    → Holds t' (table_of c x (decode_table t).slots)
+headed t t' n c x f h g m e = laid_head t t' c x f h g (rw (m ∙ sym (slots_count t)) at e)
 
 -- the block that was lent
 pub first_lent : (rest : List ℕ) (P : Type 0) {o : Option (MutBor (List ℕ))} {b : MutBor (List ℕ)} → MatchOption o P (λ c. IsFirstChunk rest c.now 512) → o ≡ Some b
