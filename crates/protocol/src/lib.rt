@@ -154,8 +154,8 @@ pub enum Answer {
     Callback(u32),
 }
 
-// The result of answer and of finish. Here and in the three results below `refusal` is a number and no `Refusal`: a refused call's
-// result is laid down field by field, the number and 0 in all others, and a host reads the same fields in C.
+// The result of answer and of finish. Here and in the three results below `refusal` is a number and no `Refusal`: the meaning's
+// `refused_outcome`, `form_refused`, `visit_refused` and `fault`, which may not change, lay the number down; it is 0 where nothing is refused.
 #[derive(Clone, Copy)]
 pub struct Outcome {
     pub refusal: u32,
