@@ -9,6 +9,13 @@ ghost use Rattle.calendar.specs.Years.{days_in};
 
 use protocol::{Date, Time, YearDay};
 
+// A day by its number, from 1 January 1970 on; at most that of the latest time.
+#[derive(Clone, Copy)]
+struct Day {
+    number: u64,
+    ghost in_range: { number ≤ 12725829 },
+}
+
 // The days of the first years of our era, counted from year 1.
 #[tactic(auto, unfolding(crate::specs::Years::days_in))]
 fn days_in(years: u64) -> u64
@@ -18,13 +25,12 @@ fn days_in(years: u64) -> u64
     365 * years + years / 4 + years / 400 - years / 100
 }
 
-// The year of a day after 1 January 1970. 719,162 days lie before that one.
+// The year of a day. 719,162 days lie before 1 January 1970.
 #[tactic(auto, using(crate::proofs::Years::this_before, crate::proofs::Years::this_year, crate::proofs::Years::next_year))]
-fn year_of(days: u64) -> YearDay
-    requires { days ≤ 12725829 }
-    ensures { result ≡ year_of days }
+fn year_of(day: Day) -> YearDay
+    ensures { result ≡ year_of day.number }
 {
-    let n = days + 719162;
+    let n = day.number + 719162;
     let years = 400 * n / 146097;
     let next = days_in(years + 1);
     if n < next {
@@ -84,17 +90,17 @@ fn month_of(year: u64, day: u64) -> Date
     }
 }
 
-// The date of a day after 1 January 1970.
+// The date of a day.
 #[tactic(auto, using(crate::proofs::Months::day_fits, crate::proofs::Months::date_is))]
-fn date_of(days: u64) -> Date
-    requires { days ≤ 12725829 }
-    ensures { result ≡ date_of days }
+fn date_of(day: Day) -> Date
+    ensures { result ≡ date_of day.number }
 {
-    let y = year_of(days);
+    let y = year_of(day);
     month_of(y.year, y.day)
 }
 
 // A mark and a number of two digits.
+// By hand and by no format, for the reason at `text::put_hex`; and `text::put_decimal` writes no leading zero.
 fn put_two(out: &mut [u8], at: usize, mark: u8, v: u64) -> usize
     requires room { Room out.old at (mark ∷ padded 2 v) }
     requires v_bound { v < 100 }
@@ -105,12 +111,11 @@ fn put_two(out: &mut [u8], at: usize, mark: u8, v: u64) -> usize
 }
 
 // `2024-02-29`
-fn put_day(out: &mut [u8], at: usize, days: u64) -> usize
-    requires room { Room out.old at (day_text (date_of days)) }
-    requires days_bound { days ≤ 12725829 }
-    ensures { Wrote out.old at out.new result (day_text (date_of days)) }
+fn put_day(out: &mut [u8], at: usize, day: Day) -> usize
+    requires { Room out.old at (day_text (date_of day.number)) }
+    ensures { Wrote out.old at out.new result (day_text (date_of day.number)) }
 {
-    let d = date_of(days);
+    let d = date_of(day);
     let a1 = text::put_decimal(out, at, d.year);
     let a2 = put_two(out, a1, b'-', d.month);
     put_two(out, a2, b'-', d.day)
@@ -132,6 +137,9 @@ pub fn put_date(out: &mut [u8], at: usize, time: Time) -> usize
     requires { Room out.old at (date_text time.seconds) }
     ensures { Wrote out.old at out.new result (date_text time.seconds) }
 {
-    let to = put_day(out, at, time.seconds / 86400);
+    let day = Day {
+        number: time.seconds / 86400,
+    };
+    let to = put_day(out, at, day);
     put_clock(out, to, time.seconds % 86400)
 }
