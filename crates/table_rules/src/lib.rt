@@ -31,6 +31,8 @@ fn limits_right(f: Fields, length: u16) -> bool
 }
 
 // A serial is nonzero and issued.
+// Here and in `life_right` serial 0 is none, and a next serial of 0 says that all are used: the meaning's `serial_right` and `own_right`, which may
+// not change, have them so, as the table's bytes do.
 #[tactic(auto, unfolding(protocol::specs::Records::serial_right))]
 fn serial_right(next: u32, serial: u32) -> bool
     ensures { result ≡ serial_right next serial }
@@ -130,7 +132,7 @@ pub fn head_right(table: &[u8], count: usize) -> bool
     ensures { result ≡ head_right count table.now }
 {
     (block::read::<u64>(table, table::AT_CLOCK) <= LAST_TIME)
-        & text::same(&table[0..table::AT_COUNT], b"TKTS")
+        & (&table[..table::AT_COUNT] == b"TKTS".as_slice())
         & (usize::from(block::read::<u16>(table, table::AT_COUNT)) == count)
         & (block::read::<u16>(table, table::AT_FORM) == 1)
         & block::all_within(&table[table::END_NEXT..table::AT_CHECK], 0, 0)
