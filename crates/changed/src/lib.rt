@@ -21,6 +21,7 @@ fn alike(a: &[u8], b: &[u8]) -> bool
 }
 
 // Is the block of a number another one than before? A block that the old table does not have is.
+// The number has its bound in a clause, here and in `put_block`, and no type: it is what is told, and `change_at`, which may not change, takes it.
 #[tactic(auto, using(crate::proofs::Writing::short_changed))]
 fn is_changed(old: &[u8], new: &[u8], k: usize) -> bool
     requires { 512 * k + 512 ≤ length new.now }

@@ -62,6 +62,9 @@ struct Judge<'a> {
 }
 
 impl<'a> Judge<'a> {
+    // A slot is a number with `k < self.count` in a clause, and no type: one would be made at each turn of `slots_right`, and opened at once where
+    // `serial_taken` goes on behind it.
+
     // Has a record behind slot k this serial?
     fn serial_taken(self, k: usize, serial: u32) -> bool
         requires { k < self.count }
@@ -119,6 +122,8 @@ impl<'a> Judge<'a> {
 // ---- the table
 
 // Is the length of a table right: a multiple of 512, 9 to 128 blocks?
+// No one function for this and the register's shape: `table_shape` and `register_shape` of protocol, which may not change, differ in their
+// limits alone, and two functions that name these would still be left.
 pub fn shape_right(n: usize) -> bool
     ensures { result ≡ table_shape n }
 {
