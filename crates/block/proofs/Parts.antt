@@ -32,8 +32,8 @@ chunk_at (suc m) (suc k) b d h =
     let e : 512 + 512 * k ≡ 512 * suc k = omega arith in
     chunk_at m k (drop 512 b) d (omega arith) ∙ rw (drop-drop (512 * k) 512 b, e)
 
-pub block_lent : (b d : List ℕ) (k : ℕ) {s : List (List ℕ)} → 512 * k + 512 ≤ length b → s ≡ first_chunks 512 (length b / 512) b → get_or s k d ≡ part (512 * k) 512 b
-block_lent b d k h c = rw c (chunk_at (length b / 512) k b d (omega arith))
+pub block_lent : (b d : List ℕ) (k j : ℕ) {s : List (List ℕ)} → 512 * k + 512 ≤ length b → j ≡ k → s ≡ first_chunks 512 (length b / 512) b → get_or s j d ≡ part (512 * k) 512 b
+block_lent b d k j h e c = rw (c, e) (chunk_at (length b / 512) k b d (omega arith))
 
 -- the test of a block from the check of its first part, taken from the table, and the number after it
 pub right_in_place : (t : List ℕ) (k u : ℕ) {x y : ℕ} → 512 * k + 512 ≤ length t → u ≤ 508
