@@ -1,5 +1,5 @@
 // Why a frame ends a program.
-ghost use Rattle.std.specs.Prelude.{◌≤◌, length};
+ghost use Rattle.std.specs.Prelude.{◌≡◌, ◌≤◌, length};
 
 use std::fmt;
 
@@ -11,9 +11,12 @@ pub enum Bad {
 }
 
 impl Bad {
+    ghost use Rattle.lent.specs.Reasons.{reason_of};
+
     // What is said of it.
     pub fn reason(self) -> &'static str
-        ensures { length result.now ≤ 1024 }
+        ensures value { result.now ≡ reason_of self }
+        ensures upper_bound { length result.now ≤ 1024 }
     {
         match self {
             Bad::Cut => "the frame is cut or too large",

@@ -1,5 +1,5 @@
 // The fields of a frame, taken one behind the other. Numbers are little-endian; a text has its length before it, a number of four bytes.
-ghost use Rattle.std.specs.Prelude.{◌≡◌, ◌∷◌, [], ◌<◌, ◌≤◌, ltb, length, take, drop, slice_index, MatchOption, IfSome};
+ghost use Rattle.std.specs.Prelude.{◌≡◌, ◌⊎◌, ◌∷◌, [], ◌<◌, ◌≤◌, ◌+◌, ltb, length, take, drop, slice_index, MatchOption};
 ghost use Rattle.std.specs.Int.{w32, w64, from_le_bytes};
 ghost use Rattle.lent.specs.Frames.{number_of, text_of, behind_text};
 
@@ -54,7 +54,7 @@ impl<'a> Fields<'a> {
 
     // A number that is at most so many: None where it is more, too.
     pub fn size(&mut self, most: usize) -> Option<usize>
-        ensures { IfSome result (λ n. (n ≤ most) × (n ≡ number_of self.old.rest.now) × (self.new.rest.now ≡ drop 4 self.old.rest.now)) }
+        ensures { MatchOption result ((length self.old.rest.now < 4) ⊎ (most < number_of self.old.rest.now)) (λ n. (n ≤ most) × (n ≡ number_of self.old.rest.now) × (self.new.rest.now ≡ drop 4 self.old.rest.now)) }
     {
         let n = self.number()? as usize;
         if most < n {
@@ -64,7 +64,7 @@ impl<'a> Fields<'a> {
     }
 
     pub fn text(&mut self) -> Option<&'a [u8]>
-        ensures { IfSome result (λ text. (text.now ≡ text_of self.old.rest.now) × (self.new.rest.now ≡ behind_text self.old.rest.now)) }
+        ensures { MatchOption result (length self.old.rest.now < 4 + number_of self.old.rest.now) (λ text. (text.now ≡ text_of self.old.rest.now) × (self.new.rest.now ≡ behind_text self.old.rest.now)) }
     {
         let n = self.number()? as usize;
         let (text, rest) = self.rest.split_at_checked(n)?;
@@ -76,6 +76,6 @@ impl<'a> Fields<'a> {
     pub fn end(self) -> Option<()>
         ensures { MatchOption result (0 < length self.entry.rest.now) (λ _. self.entry.rest.now ≡ []) }
     {
-        if self.rest.is_empty() { Some(()) } else { None }
+        self.rest.is_empty().then_some(())
     }
 }

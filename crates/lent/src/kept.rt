@@ -1,5 +1,5 @@
 // Bytes that a program keeps from frame to frame.
-ghost use Rattle.std.specs.Prelude.{◌≡◌, ◌↔◌, ◌<◌, ◌≤◌, length, take, MatchOption, IsSome};
+ghost use Rattle.std.specs.Prelude.{◌≡◌, ◌↔◌, ◌<◌, ◌≤◌, length, take, MatchOption, IfSome, IsSome};
 
 // The first bytes of a room of N.
 #[derive(Drop)]
@@ -52,9 +52,15 @@ impl<const N: usize> Kept<N> {
 
     // These bytes from here on: None where there is no room for them.
     pub fn load(&mut self, bytes: &[u8]) -> Option<()>
-        ensures { IsSome result ↔ (length bytes.now ≤ N) }
+        ensures value { IfSome result (λ _. take self.new.size self.new.room ≡ bytes.now) }
+        ensures variant { IsSome result ↔ (length bytes.now ≤ N) }
     {
-        self.resize(bytes.len())?.copy_from_slice(bytes);
+        let n = bytes.len();
+        if N < n {
+            return None;
+        }
+        self.room[..n].copy_from_slice(bytes);
+        self.size = n;
         Some(())
     }
 }

@@ -1,9 +1,10 @@
 // What the programs that read frames share: input read into a lent buffer, bytes kept from frame to frame, the fields of a frame, the frames
-// of an answer and of a visit, and why a frame ends a program.
+// of an answer, of a callback's outcome and of a visit, and why a frame ends a program.
 #![tactic(auto)]
 
 mod asked;
 mod bad;
+mod callback;
 mod fields;
 mod kept;
 mod question;
@@ -13,6 +14,7 @@ ghost use Rattle.lent.specs.Counts.{IsPrefixLen};
 
 pub use asked::Request;
 pub use bad::Bad;
+pub use callback::Callback;
 pub use fields::Fields;
 pub use kept::Kept;
 pub use question::Question;
