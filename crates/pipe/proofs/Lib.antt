@@ -1,2 +1,2 @@
--- What a call tells of its table.
+-- What is put into a frame.
 pub mod Laws

@@ -1,8 +1,13 @@
-// The frame out: its fields put one behind the other. The first four bytes are its length, put last.
-ghost use Rattle.std.specs.Prelude.{◌≡◌, ◌+◌, ◌≤◌, length};
+// The frame out: its fields put one behind the other. The first four bytes are its length, put last. What is put is said by specs/Frames.antt.
+ghost use Rattle.std.specs.Prelude.{◌≡◌, ◌∷◌, [], ◌+◌, ◌≤◌, length};
+ghost use Rattle.protocol.specs.Bytes.{bytes_of};
+ghost use Rattle.protocol.specs.Refusals.{number_of_result};
+ghost use Rattle.protocol.specs.Written.{Wrote};
+ghost use Rattle.lent.specs.Reasons.{reason_of};
+ghost use Rattle.pipe.specs.Frames.{letter_alone, refused, sized, fault_frame, panel_frame, table_frame, bad_frame, form_frame, visit_frame, outcome_numbers, outcome_frame};
 
 use lent::{Bad, front};
-use protocol::{Fault, Form, Outcome, Visit};
+use protocol::{Fault, Form, Outcome, Refusal, Visit};
 use std::io;
 use std::io::Write;
 
@@ -17,7 +22,8 @@ pub struct FrameOut {
 impl FrameOut {
     fn put_byte(&mut self, v: u8)
         requires { self.old.end + 1 ≤ 131072 }
-        ensures { self.new.end ≡ self.old.end + 1 }
+        ensures next { self.new.end ≡ self.old.end + 1 }
+        ensures wrote { Wrote self.old.bytes self.old.end self.new.bytes self.new.end (v ∷ []) }
     {
         self.bytes[self.end] = v;
         self.end += 1;
@@ -25,7 +31,8 @@ impl FrameOut {
 
     fn put_number(&mut self, v: u64)
         requires { self.old.end + 4 ≤ 131072 }
-        ensures { self.new.end ≡ self.old.end + 4 }
+        ensures next { self.new.end ≡ self.old.end + 4 }
+        ensures wrote { Wrote self.old.bytes self.old.end self.new.bytes self.new.end (bytes_of 4 v) }
     {
         block::put(&mut self.bytes, self.end, 4, v);
         self.end += 4;
@@ -33,7 +40,8 @@ impl FrameOut {
 
     fn put_text(&mut self, s: &[u8])
         requires { self.old.end + (4 + length s.now) ≤ 131072 }
-        ensures { self.new.end ≡ self.old.end + (4 + length s.now) }
+        ensures next { self.new.end ≡ self.old.end + (4 + length s.now) }
+        ensures wrote { Wrote self.old.bytes self.old.end self.new.bytes self.new.end (sized s.now) }
     {
         self.put_number(s.len() as u64);
         self.end = text::put_bytes(&mut self.bytes, self.end, s);
@@ -41,40 +49,48 @@ impl FrameOut {
 
     // The letter, behind the four bytes of the length.
     fn begin(&mut self, letter: u8)
-        ensures { self.new.end ≡ 5 }
+        ensures next { self.new.end ≡ 5 }
+        ensures wrote { Wrote self.old.bytes 4 self.new.bytes self.new.end (letter_alone letter) }
     {
         self.end = 4;
         self.put_byte(letter);
     }
 
-    // Letter and refusal.
+    // Letter and refusal. Its number: `Fault`, `Form`, `Visit` and `Outcome` of document 01 have no more (`refused_outcome`).
     pub fn put_refusal(&mut self, letter: u8, refusal: u32)
-        ensures { self.new.end ≡ 9 }
+        ensures next { self.new.end ≡ 9 }
+        ensures wrote { Wrote self.old.bytes 4 self.new.bytes self.new.end (refused letter refusal) }
     {
         self.begin(letter);
         self.put_number(u64::from(refusal));
     }
 
-    pub fn reply_fault(&mut self, fault: Fault) {
+    pub fn reply_fault(&mut self, fault: Fault)
+        ensures { Wrote self.old.bytes 4 self.new.bytes self.new.end (fault_frame fault) }
+    {
         self.put_refusal(b'G', fault.refusal);
         self.put_number(fault.block as u64);
     }
 
-    pub fn reply_panel(&mut self, refusal: u32, block: &[u8])
+    pub fn reply_panel(&mut self, done: Result<(), Refusal>, block: &[u8])
         requires { length block.now ≤ 512 }
+        ensures { Wrote self.old.bytes 4 self.new.bytes self.new.end (panel_frame (number_of_result done) block.now) }
     {
-        self.put_refusal(b'B', refusal);
+        self.put_refusal(b'B', protocol::number_of(done));
         self.put_text(block);
     }
 
     pub fn reply_table(&mut self, table: &[u8])
         requires { length table.now ≤ 65536 }
+        ensures { Wrote self.old.bytes 4 self.new.bytes self.new.end (table_frame table.now) }
     {
         self.begin(b'T');
         self.put_text(table);
     }
 
-    pub fn reply_bad(&mut self, bad: Bad) {
+    pub fn reply_bad(&mut self, bad: Bad)
+        ensures { Wrote self.old.bytes 4 self.new.bytes self.new.end (bad_frame (reason_of bad)) }
+    {
         self.begin(b'X');
         self.put_text(bad.reason().as_bytes());
     }
@@ -82,6 +98,7 @@ impl FrameOut {
     pub fn reply_form(&mut self, form: Form, username: &[u8], password: &[u8])
         requires username_len_bound { length username.now ≤ 4096 }
         requires password_len_bound { length password.now ≤ 4096 }
+        ensures { Wrote self.old.bytes 4 self.new.bytes self.new.end (form_frame form username.now password.now) }
     {
         self.put_refusal(b'R', form.refusal);
         self.put_text(front(username, form.username_length));
@@ -90,6 +107,7 @@ impl FrameOut {
 
     pub fn reply_visit(&mut self, visit: Visit, text: &[u8])
         requires { length text.now ≤ 16384 }
+        ensures { Wrote self.old.bytes 4 self.new.bytes self.new.end (visit_frame visit text.now) }
     {
         self.put_refusal(b'V', visit.refusal);
         self.put_text(front(text, visit.length));
@@ -97,7 +115,8 @@ impl FrameOut {
 
     // What an outcome says beside its bytes.
     fn put_outcome(&mut self, letter: u8, o: Outcome)
-        ensures { self.new.end ≡ 20 }
+        ensures next { self.new.end ≡ 20 }
+        ensures wrote { Wrote self.old.bytes 4 self.new.bytes self.new.end (outcome_numbers letter o) }
     {
         self.put_refusal(letter, o.refusal);
         self.put_byte((reply::number_of(o.answer) % 256) as u8);
@@ -111,7 +130,8 @@ impl FrameOut {
     pub fn reply_outcome(&mut self, letter: u8, o: Outcome, text: &[u8], cookie: &[u8])
         requires text_len_bound { length text.now ≤ 16384 }
         requires cookie_len_bound { length cookie.now ≤ 4096 }
-        ensures { self.new.end ≤ 20508 }
+        ensures upper_bound { self.new.end ≤ 20508 }
+        ensures wrote { Wrote self.old.bytes 4 self.new.bytes self.new.end (outcome_frame letter o text.now cookie.now) }
     {
         self.put_outcome(letter, o);
         self.put_text(front(text, o.length));

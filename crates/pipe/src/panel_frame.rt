@@ -10,6 +10,6 @@ pub fn panel(mut fields: Fields, out: &mut FrameOut) -> Option<()> {
     fields.end()?;
     let mut block = [0u8; 512];
     let done = signon::panel(service, callback, &mut block);
-    out.reply_panel(protocol::number_of(done), told_after(done, &block));
+    out.reply_panel(done, told_after(done, &block));
     Some(())
 }

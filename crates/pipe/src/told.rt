@@ -16,7 +16,8 @@ pub fn told<F: FnOnce(&mut [u8], &mut FrameOut)>(
     requires end_bound { (t : _) (o : _) (s : _) (p : _) → F.post call t o tt s p → p.now.end ≤ 20508 }
     ensures { Told table.old table.new out.new.bytes out.new.end }
 {
-    let n = text::put_bytes(old, 0, table);
+    let old = &mut old[..table.len()];
+    old.copy_from_slice(table);
     call(table, out);
-    out.end = changed::put_changed(lent::front(old, n), table, &mut out.bytes, out.end);
+    out.end = changed::put_changed(old, table, &mut out.bytes, out.end);
 }

@@ -1,10 +1,10 @@
 -- What is told is told against the table that was kept, and there is room for it behind what the call said.
 use Rattle.std.proofs.Common.{rules}
-use Rattle.pipe.proofs.Laws.{told_call}
+use Rattle.changed.proofs.Writing.{told_last}
 use Rattle.pipe.proofs.told.told.Goals as goal
 
 pub returns : goal.returns
-returns g c = told_call _ _ _ _ _ c.put_bytes-n.ensures c.front.ensures c.put_changed-out.ensures
+returns g c = told_last _ _ _ c.copy_from_slice.ensures.after c.put_changed-out.ensures
 
 pub put_changed-out-requires : goal.put_changed-out-requires
 put_changed-out-requires g c = search (rules, c.requires.end_bound _ _ _ _ c.call.ensures)

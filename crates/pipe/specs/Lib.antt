@@ -1,0 +1,2 @@
+-- What the contracts of the frames out cite.
+pub mod Frames
