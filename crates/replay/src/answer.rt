@@ -1,7 +1,8 @@
-// The frames of an answer and of a callback's outcome: their fields taken, the call made.
-use super::frame::{Stop, flag, gather, long, number, size};
+// The frames of an answer and of a callback's outcome: gathered, the call made on what they say. An answer's room has a place less than a frame,
+// for its letter.
+use super::frame::{Stop, gather};
 use super::line::say_outcome;
-use lent::{Bad, Kept, Request};
+use lent::{Bad, Callback, Kept, Request};
 use std::io::{Read, Write};
 
 pub fn answer(
@@ -29,14 +30,13 @@ pub fn finish(
     output: &mut impl Write,
     table: &mut Kept<70000>,
 ) -> Result<(), Stop> {
-    let serial = number(input)?;
-    let good = flag(input)?;
-    let time = long(input)?;
-    let size = size(input, 16384)?;
+    let mut room = [0u8; 17];
+    let fields = gather(input, &mut room, 17, 0)?;
+    let callback = Callback::read(fields).ok_or(Bad::Cut)?;
     let mut out = [0xEEu8; 16384];
-    let out = &mut out[..size];
+    let out = &mut out[..callback.out];
     let table = table.bytes_mut();
-    let outcome = signon::finish(table, serial, good, time, out);
+    let outcome = callback.finish(table, out);
     say_outcome(output, 'N', outcome, out, b"", table)?;
     Ok(())
 }

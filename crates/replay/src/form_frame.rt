@@ -1,5 +1,6 @@
 // The frame of a form: its body and the sizes of the two buffers taken, the call made. Both sizes are read before either is judged, so that
-// a frame is refused for one of them only once it was read whole.
+// a frame is refused for one of them only once it was read whole. Not gathered and read as `pipe` reads its form, which may have a longer body:
+// here a body of more than 65,536 bytes is refused by its length, before any byte of it is read.
 use super::frame::{Stop, fitting, number, text};
 use super::line::say_form;
 use std::io::{Read, Write};

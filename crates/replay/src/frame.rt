@@ -1,5 +1,7 @@
-// The fields of a frame, read from the input. Where a read fails, a buffer has its length, and its bytes may be others.
-ghost use Rattle.std.specs.Prelude.{◌≡◌, ◌+◌, ◌≤◌, length, IfOk, OnErr};
+// The fields of a frame, read from the input. Where a read fails, a buffer has its length, and its bytes may be others. No `lent::Fields`, which
+// has a whole frame before its first field is taken: here the length of a register or a text is judged before its bytes are read. Of the few
+// numbers of F and K it would only want an `ok_or` behind each.
+ghost use Rattle.std.specs.Prelude.{◌≡◌, ◌+◌, ◌*◌, ◌≤◌, length, IfOk, OnErr};
 
 use lent::{Bad, Fields, read_full};
 use std::io;
@@ -37,7 +39,7 @@ pub fn fill(input: &mut impl Read, buf: &mut [u8]) -> Result<(), Stop>
 {
     let got = read_full(input, buf)?;
     if got < buf.len() {
-        return Err(Stop::Bad(Bad::Cut));
+        return Err(Bad::Cut.into());
     }
     Ok(())
 }
@@ -51,11 +53,6 @@ fn array<const N: usize>(input: &mut impl Read) -> Result<[u8; N], Stop> {
 pub fn byte(input: &mut impl Read) -> Result<u8, Stop> {
     let bytes: [u8; 1] = array(input)?;
     Ok(bytes[0])
-}
-
-// A byte that says yes where it is not 0.
-pub fn flag(input: &mut impl Read) -> Result<bool, Stop> {
-    Ok(byte(input)? != 0)
 }
 
 pub fn number(input: &mut impl Read) -> Result<u32, Stop> {
@@ -72,35 +69,29 @@ pub fn fitting(n: u32, most: usize) -> Result<usize, Stop>
 {
     let n = n as usize;
     if most < n {
-        return Err(Stop::Bad(Bad::Cut));
+        return Err(Bad::Cut.into());
     }
     Ok(n)
-}
-
-// The next number, where it is at most so many.
-pub fn size(input: &mut impl Read, most: usize) -> Result<usize, Stop>
-    ensures { IfOk result (λ n. n ≤ most) }
-{
-    fitting(number(input)?, most)
 }
 
 // A text, put at the start of a room that has place for it.
 pub fn text<'a>(input: &mut impl Read, room: &'a mut [u8; 65536]) -> Result<&'a [u8], Stop>
     ensures { IfOk result (λ text. length text.now ≤ 65536) }
 {
-    let n = size(input, room.len())?;
+    let n = fitting(number(input)?, room.len())?;
     fill(input, &mut room[..n])?;
     Ok(&room[..n])
 }
 
-// So many bytes more of a frame, put behind those before a place: where they end.
+// So many bytes more of a frame, put behind those before a place: where they end. The frame goes along with its end so far, since all of it is
+// lent at last: a slice of what is left of the room would have to be counted back.
 fn gather_bytes(input: &mut impl Read, frame: &mut [u8], at: usize, n: usize) -> Result<usize, Stop>
     requires { at ≤ length frame.old }
     ensures ok { IfOk result (λ end. (end ≡ at + n) × (end ≤ length frame.new)) }
     ensures err { OnErr result (length frame.new ≡ length frame.old) }
 {
     if frame.len() - at < n {
-        return Err(Stop::Bad(Bad::Cut));
+        return Err(Bad::Cut.into());
     }
     let end = at + n;
     fill(input, &mut frame[at..end])?;
@@ -110,7 +101,7 @@ fn gather_bytes(input: &mut impl Read, frame: &mut [u8], at: usize, n: usize) ->
 // A text with its length before it, in the same way.
 fn gather_text(input: &mut impl Read, frame: &mut [u8], at: usize) -> Result<usize, Stop>
     requires { at ≤ length frame.old }
-    ensures ok { IfOk result (λ end. end ≤ length frame.new) }
+    ensures ok { IfOk result (λ end. (at + 4 ≤ end) × (end ≤ length frame.new)) }
     ensures err { OnErr result (length frame.new ≡ length frame.old) }
 {
     let from = gather_bytes(input, frame, at, 4)?;
@@ -118,13 +109,15 @@ fn gather_text(input: &mut impl Read, frame: &mut [u8], at: usize) -> Result<usi
     gather_bytes(input, frame, from, n as usize)
 }
 
-// A frame behind its letter, for which the room has a place less: so many bytes, then so many texts.
+// A frame behind its letter: so many bytes, then so many texts. It has at least these bytes and each text's length.
 pub fn gather<'a>(
     input: &mut impl Read,
-    room: &'a mut [u8; 131071],
+    room: &'a mut [u8],
     head: usize,
     texts: usize,
-) -> Result<Fields<'a>, Stop> {
+) -> Result<Fields<'a>, Stop>
+    ensures { IfOk result (λ fields. head + 4 * texts ≤ length fields.rest.now) }
+{
     let mut end = gather_bytes(input, room, 0, head)?;
     for _ in 0..texts {
         end = gather_text(input, room, end)?;

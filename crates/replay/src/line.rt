@@ -3,7 +3,7 @@
 ghost use Rattle.std.specs.Prelude.{◌≤◌, length};
 
 use lent::front;
-use protocol::{Form, Outcome, Visit};
+use protocol::{Form, Outcome, Refusal, Visit};
 use std::io;
 use std::io::Write;
 
@@ -18,6 +18,7 @@ fn sum(s: &[u8]) -> u64 {
     b * 65536 + a
 }
 
+// Into room of a fixed size, whose filled part is counted: there is no heap for a text that grows, and `text::put_hex` puts into lent bytes.
 fn write_digits(output: &mut impl Write, bytes: &[u8]) -> io::Result<()>
     requires { length bytes.now ≤ 256 }
 {
@@ -42,9 +43,10 @@ fn write_hex(output: &mut impl Write, bytes: &[u8]) -> io::Result<()> {
 pub fn say_table(
     output: &mut impl Write,
     letter: char,
-    refusal: u32,
+    done: Result<(), Refusal>,
     table: &[u8],
 ) -> io::Result<()> {
+    let refusal = protocol::number_of(done);
     writeln!(output, "{letter} {refusal} {}", sum(table))?;
     output.flush()
 }

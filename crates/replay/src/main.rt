@@ -76,6 +76,6 @@ fn step(
         b'A' => answer(input, output, table, register),
         b'N' => finish(input, output, table),
         b'V' => visit(input, output, table),
-        _ => Err(Stop::Bad(Bad::Unknown)),
+        _ => Err(Bad::Unknown.into()),
     }
 }

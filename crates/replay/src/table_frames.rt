@@ -29,15 +29,14 @@ pub fn format(
     let time = long(input)?;
     let table = table.resize(size).ok_or(Bad::Cut)?;
     table.fill(v);
-    let refusal = protocol::number_of(signon::format(table, time));
-    say_table(output, 'F', refusal, table)?;
+    let done = signon::format(table, time);
+    say_table(output, 'F', done, table)?;
     Ok(())
 }
 
 pub fn check(output: &mut impl Write, table: &Kept<70000>) -> Result<(), Stop> {
     let table = table.bytes();
-    let refusal = protocol::number_of(signon::check(table));
-    say_table(output, 'C', refusal, table)?;
+    say_table(output, 'C', signon::check(table), table)?;
     Ok(())
 }
 
@@ -48,7 +47,7 @@ pub fn housekeep(
 ) -> Result<(), Stop> {
     let time = long(input)?;
     let table = table.bytes_mut();
-    let refusal = protocol::number_of(signon::housekeep(table, time));
-    say_table(output, 'K', refusal, table)?;
+    let done = signon::housekeep(table, time);
+    say_table(output, 'K', done, table)?;
     Ok(())
 }
