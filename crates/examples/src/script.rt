@@ -12,7 +12,7 @@
 //
 // The random input is always the same, so that a ticket's text is told by its serial: secrets of 9 bytes are all c3, those of
 // 16 all a1, the IOU's all b2.
-use super::shown::{show_form, show_outcome, show_refusal, show_visit};
+use super::shown::{show_done, show_form, show_outcome, show_visit};
 use super::words::{number, word};
 use protocol::Method;
 use std::io;
@@ -71,15 +71,9 @@ impl Cases {
 
     fn step(&mut self, output: &mut impl Write, line: &[u8]) -> io::Result<()> {
         match line.first() {
-            Some(b'n') => show_refusal(
-                output,
-                protocol::number_of(signon::format(&mut self.table, time_of(line))),
-            ),
-            Some(b'c') => show_refusal(output, protocol::number_of(signon::check(&self.table))),
-            Some(b'h') => show_refusal(
-                output,
-                protocol::number_of(signon::housekeep(&mut self.table, time_of(line))),
-            ),
+            Some(b'n') => show_done(output, signon::format(&mut self.table, time_of(line))),
+            Some(b'c') => show_done(output, signon::check(&self.table)),
+            Some(b'h') => show_done(output, signon::housekeep(&mut self.table, time_of(line))),
             Some(b'g') => self.get(output, line),
             Some(b'p') => self.post(output, line),
             Some(b'f') => self.finish(output, line),

@@ -1,6 +1,6 @@
 // What a call answered, as text: its numbers on a line, then its bytes, and a line feed after them.
 use lent::front;
-use protocol::{Answer, Form, Outcome, Visit};
+use protocol::{Answer, Form, Outcome, Refusal, Visit};
 use std::io;
 use std::io::Write;
 
@@ -22,8 +22,13 @@ fn name(answer: Answer) -> &'static str {
     }
 }
 
-pub fn show_refusal(output: &mut impl Write, refusal: u32) -> io::Result<()> {
+// By its number: the results of document 01 have no more (`refused_outcome`).
+fn show_refusal(output: &mut impl Write, refusal: u32) -> io::Result<()> {
     write!(output, "refusal {refusal}\n\n")
+}
+
+pub fn show_done(output: &mut impl Write, done: Result<(), Refusal>) -> io::Result<()> {
+    show_refusal(output, protocol::number_of(done))
 }
 
 fn show_cookie(output: &mut impl Write, cookie: &[u8]) -> io::Result<()> {
