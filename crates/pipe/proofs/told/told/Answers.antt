@@ -4,7 +4,7 @@ use Rattle.changed.proofs.Writing.{told_last}
 use Rattle.pipe.proofs.told.told.Goals as goal
 
 pub returns : goal.returns
-returns g c = told_last _ _ _ c.copy_from_slice.ensures.after c.put_changed-out.ensures
+returns g c = search (rules, told_last)
 
 pub put_changed-out-requires : goal.put_changed-out-requires
 put_changed-out-requires g c = search (rules, c.requires.end_bound _ _ _ _ c.call.ensures)
