@@ -4,6 +4,7 @@ use mathlib.Core.List.{List, [], ◌∷◌}
 use Prim.Native.Nat.{ℕ, ◌+◌, ◌%◌, ◌≤◌}
 use native.Mathlib.Omega.{arith}
 use lib.ListN.{length, take}
+use lib.Seq.{take-length}
 use Rattle.std.specs.Int.{from_bool}
 use Rattle.protocol.specs.Answers.{number_of, data_of}
 use Rattle.protocol.specs.Bytes.{bytes_of, spliced, joined}
@@ -54,3 +55,7 @@ pub outcome_told : (letter : ℕ) (o : Outcome) (text cookie d e f g s t : List 
 outcome_told letter o text cookie d e f g s t n m k v p w q x =
     three_wrote d e f g (outcome_numbers letter o) (sized (take o.length text)) (sized (take o.cookie_length cookie)) 4 n m k v
     (cut_wrote e f s (take o.length text) n m p w) (cut_wrote f g t (take o.cookie_length cookie) m k q x)
+
+-- all of what was kept
+pub kept_whole : (kept table : List ℕ) → kept ≡ table → take (length kept) kept ≡ table
+kept_whole kept table q = take-length kept ∙ q
