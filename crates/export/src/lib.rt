@@ -48,7 +48,8 @@ fn put_visit(v: Visit, list: &mut [u64])
     list.copy_from_slice(&[u64::from(v.refusal), v.length as u64]);
 }
 
-// The two of a register's check.
+// The two of a register's check. Beside `put_visit`, since each names the fields of its own result: one function over two numbers would say
+// of neither which they are, and leave that to its callers.
 fn put_fault(f: Fault, list: &mut [u64])
     requires { length list.old ≡ 2 }
     ensures { list.new ≡ fault_numbers f }
