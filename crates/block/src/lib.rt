@@ -190,7 +190,7 @@ pub fn block_at<'a>(s: &'a [u8], k: usize) -> &'a [u8; 512]
 // ---- the check
 
 // The check of a text with n zeros behind it. Both sums run on unreduced over the text, and are reduced once at the end; over
-// zeros the first stays, and the second grows by the first at each.
+// zeros the first stays, and the second grows by the first at each. Up to 4,096 bytes, here and below, the sums fit; of such slices there is no type.
 #[tactic(auto, using(crate::proofs::Sums::sums_turn, crate::proofs::Sums::sums_done), unfolding(protocol::specs::Blocks::house_check))]
 pub fn padded_check(s: &[u8], n: usize) -> u32
     requires { length s.now + n ≤ 4096 }

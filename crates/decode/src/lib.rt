@@ -79,8 +79,8 @@ impl<'a> Units<'a> {
 
 // The length of a value, decoded, where it has only bytes from lo to hi and at most so many. Nothing is written.
 // Here and below units are counted by hand, in the walk that judges or writes them. `try_fold` was tried here: that the count fits stayed open,
-// and so did what is answered. Where a value is and how it is read are two parameters: `request::Spelling`, the struct of both, is made of a
-// value that was judged here.
+// and so did what is answered. Where a value is and how it is read are two parameters: `decoded` of protocol, which may not change, takes the
+// two apart.
 #[tactic(auto, using(crate::proofs::Laws::decoded_short), unfolding(crate::specs::Judging::judged, protocol::specs::Bytes::all_within))]
 pub fn judge(raw: &[u8], in_body: bool, lo: usize, hi: usize, most: usize) -> Option<usize>
     ensures { result ≡ judged in_body lo hi most raw.now }

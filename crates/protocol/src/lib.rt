@@ -156,6 +156,7 @@ pub enum Answer {
 
 // The result of answer and of finish. Here and in the three results below `refusal` is a number and no `Refusal`: the meaning's
 // `refused_outcome`, `form_refused`, `visit_refused` and `fault`, which may not change, lay the number down; it is 0 where nothing is refused.
+// A status and a callback's serial are numbers, 0 for none: so in the meaning's `status_of`, `serial_of` and `ErrorPage`, which may not change.
 #[derive(Clone, Copy)]
 pub struct Outcome {
     pub refusal: u32,

@@ -1,6 +1,6 @@
 // The path of a target, where its query starts, and the names of a query or body, found in one walk over its pieces. A reader
 // that holds the query and its place goes from piece to piece, and gives them one by one. Its step is thin: the work is
-// `next_piece`, on a plain slice and a place, and whoever calls `piece_after` has plain parameters too.
+// `next_piece`, on a plain slice and a place.
 #![tactic(auto)]
 
 ghost use Rattle.std.specs.Prelude.{◌≡◌, ◌+◌, ◌-◌, ◌<◌, ◌^◌, drop};
@@ -12,7 +12,8 @@ ghost use Rattle.query.specs.Place.{Inside, noted_by, Walked};
 use protocol::{Path, Validator};
 
 // A piece: its name runs from `start` to `mid`, its raw value from `value` to `end`. An empty one stands for none.
-// Four places, and an empty one for none: the definition `piece_after`, of which the contracts of the steps speak and which may not change, answers so.
+// Four places, and an empty one for none: the definition `piece_after`, of which the contracts of `next_piece`, `next` and `piece_after` speak and
+// which may not change, answers so.
 #[derive(Clone, Copy)]
 pub struct Piece {
     pub start: usize,
@@ -84,7 +85,7 @@ pub fn path_of(target: &[u8]) -> Path
 }
 
 // The query starts after it: a part of the target itself, empty where there is none.
-// An empty one for none is the meaning's `query_part`, which may not change.
+// An empty one for none is the meaning's `query_part`, which may not change. By `first_at`, as `path_of` cuts; so does `next_piece` below.
 #[tactic(auto, using(crate::proofs::Laws::query_some, crate::proofs::Laws::query_none))]
 pub fn query_of<'a>(target: &'a [u8]) -> &'a [u8]
     ensures { result.now ≡ query_part target.now }
@@ -173,6 +174,7 @@ impl<'a> Iterator for Reader<'a> {
     }
 }
 
+// The clause of `next_piece` again, by way of the step; docs/PROMISES.md names it.
 pub fn piece_after(query: &[u8], place: Piece) -> Piece
     ensures { result ≡ piece_after query.now place }
 {
@@ -228,7 +230,8 @@ pub fn walk(q: &[u8], a: &[u8], b: &[u8], c: &[u8], d: &[u8]) -> Places
     at
 }
 
-// The raw value at a place: that part of the caller's own bytes.
+// The raw value at a place: that part of the caller's own bytes. Two numbers, here and in `noted`, as `Inside` and `noted_by` have them. `Inside` is a
+// clause, here and where a value is judged, and no type: a `Place` has not the query, which its owner may write over.
 pub fn raw_at<'a>(q: &'a [u8], from: usize, to: usize) -> &'a [u8]
     requires { Inside q.now from to }
     ensures { result.now ≡ part from (to - from) q.now }

@@ -31,7 +31,8 @@ fn is_secure(s: &[u8]) -> bool
     s.is_empty() || s.starts_with(b"https://")
 }
 
-// A service of 1 to 200 bytes, a callback of at most 200.
+// A service of 1 to 200 bytes, a callback of at most 200. Here and where a block is made they are two parameters: `panel_of` and `panel_refusal` of
+// protocol, which may not change, take the two apart, and so does who calls.
 #[tactic(auto, unfolding(protocol::specs::Register::entry_right, crate::specs::Blockwise::secure))]
 fn entry_right(service: &[u8], callback: &[u8]) -> bool
     ensures { result ≡ entry_right (entry service.now callback.now) }
@@ -94,8 +95,7 @@ fn block_right(b: &[u8; 512]) -> bool
 
 // Register and block are two parameters and no struct: `service_in` and `at_fault` of protocol, which may not change, take the two apart.
 
-// The service of block k, where it stands. Register and block go together here and below, and are two: the meaning's `service_in` and `at_fault`,
-// which may not change, speak of both.
+// The service of block k, where it stands.
 #[tactic(auto, unfolding(protocol::specs::Panels::service_in))]
 pub fn service_at<'a>(b: &'a [u8], k: usize) -> &'a [u8]
     requires { 512 * k + 512 ≤ length b.now }

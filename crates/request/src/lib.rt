@@ -118,8 +118,7 @@ fn judged_callback<'a>(validator: Validator, q: &'a [u8], place: Place) -> Optio
             };
             Some(Value { spelling })
         }
-        Validator::Service => judged(q, place, false, Rule::Plain),
-        Validator::Proxy => judged(q, place, false, Rule::Plain),
+        Validator::Service | Validator::Proxy => judged(q, place, false, Rule::Plain),
     }
 }
 

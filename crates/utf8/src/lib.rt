@@ -67,6 +67,7 @@ pub fn is_start(state: Next) -> bool
     matches!(state, Next::Start)
 }
 
+// Not by `str::from_utf8`: a value of a request is judged while it is decoded, with no buffer, and one machine serves both.
 pub fn is_name(bytes: &[u8]) -> bool
     ensures { result ≡ name_right bytes.now }
 {
