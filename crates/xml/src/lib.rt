@@ -3,7 +3,7 @@
 // the literals of functions that are called one after the other take the same place of the stack.
 #![tactic(auto)]
 
-ghost use Rattle.std.specs.Prelude.{◌≤◌, length};
+ghost use Rattle.std.specs.Prelude.{◌≡◌, ◌≤◌, length};
 ghost use Rattle.protocol.specs.Answers.{reply_text, code_text, mark_text, Failure, ProxySuccess, ProxyFailure};
 ghost use Rattle.protocol.specs.Written.{Room, Wrote};
 ghost use Rattle.xml.specs.Codes.{code_of};
@@ -21,6 +21,21 @@ pub enum Code {
     BadPgt,
     UnauthorizedService,
     InternalError,
+}
+
+impl Code {
+    fn text(self) -> &'static [u8]
+        ensures { result.now ≡ code_text (code_of self) }
+    {
+        match self {
+            Code::InvalidRequest => b"INVALID_REQUEST",
+            Code::InvalidTicket => b"INVALID_TICKET",
+            Code::InvalidService => b"INVALID_SERVICE",
+            Code::BadPgt => b"BAD_PGT",
+            Code::UnauthorizedService => b"UNAUTHORIZED_SERVICE",
+            Code::InternalError => b"INTERNAL_ERROR",
+        }
+    }
 }
 
 // The outer element begins every answer.
@@ -109,14 +124,7 @@ fn put_failure_by(out: &mut [u8], element: &[u8], code: Code) -> usize
     requires { Room out.old 0 (failure_parts element.now (code_text (code_of code))) }
     ensures { Wrote out.old 0 out.new result (failure_parts element.now (code_text (code_of code))) }
 {
-    match code {
-        Code::InvalidRequest => put_failure_of(out, element, b"INVALID_REQUEST"),
-        Code::InvalidTicket => put_failure_of(out, element, b"INVALID_TICKET"),
-        Code::InvalidService => put_failure_of(out, element, b"INVALID_SERVICE"),
-        Code::BadPgt => put_failure_of(out, element, b"BAD_PGT"),
-        Code::UnauthorizedService => put_failure_of(out, element, b"UNAUTHORIZED_SERVICE"),
-        Code::InternalError => put_failure_of(out, element, b"INTERNAL_ERROR"),
-    }
+    put_failure_of(out, element, code.text())
 }
 
 // What the validators answer, and below what proxy does: the meaning has `Failure` and `ProxyFailure` apart, and `put_failure_by` is what both share.
