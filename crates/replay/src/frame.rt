@@ -1,7 +1,7 @@
 // The fields of a frame, read from the input. Where a read fails, a buffer has its length, and its bytes may be others. No `lent::Fields`, which
 // has a whole frame before its first field is taken: here the length of a register or a text is judged before its bytes are read. Of the few
 // numbers of F and K it would only want an `ok_or` behind each.
-ghost use Rattle.std.specs.Prelude.{◌≡◌, ◌+◌, ◌*◌, ◌≤◌, length, IfOk, OnErr};
+ghost use Rattle.std.specs.Prelude.{◌≡◌, ◌+◌, ◌*◌, ◌<◌, ◌≤◌, length, IfOk, OnErr, MatchResult};
 
 use lent::{Bad, Fields, read_full};
 use std::io;
@@ -65,7 +65,7 @@ pub fn long(input: &mut impl Read) -> Result<u64, Stop> {
 
 // A number that was read, where it is at most so many.
 pub fn fitting(n: u32, most: usize) -> Result<usize, Stop>
-    ensures { IfOk result (λ size. size ≤ most) }
+    ensures { MatchResult result (λ size. (size ≡ n) × (size ≤ most)) (λ _. most < n) }
 {
     let n = n as usize;
     if most < n {
@@ -84,7 +84,7 @@ pub fn text<'a>(input: &mut impl Read, room: &'a mut [u8; 65536]) -> Result<&'a 
 }
 
 // So many bytes more of a frame, put behind those before a place: where they end. The frame goes along with its end so far, since all of it is
-// lent at last: a slice of what is left of the room would have to be counted back.
+// lent at last: a slice of what is left of the room would have to be counted back, and a struct would be opened at once, by `gather` alone.
 fn gather_bytes(input: &mut impl Read, frame: &mut [u8], at: usize, n: usize) -> Result<usize, Stop>
     requires { at ≤ length frame.old }
     ensures ok { IfOk result (λ end. (end ≡ at + n) × (end ≤ length frame.new)) }
