@@ -65,6 +65,14 @@ impl FrameOut {
         self.put_number(u64::from(refusal));
     }
 
+    // Letter and the number of what a call's result says.
+    pub fn put_done(&mut self, letter: u8, done: Result<(), Refusal>)
+        ensures next { self.new.end ≡ 9 }
+        ensures wrote { Wrote self.old.bytes 4 self.new.bytes self.new.end (refused letter (number_of_result done)) }
+    {
+        self.put_refusal(letter, protocol::number_of(done));
+    }
+
     pub fn reply_fault(&mut self, fault: Fault)
         ensures { Wrote self.old.bytes 4 self.new.bytes self.new.end (fault_frame fault) }
     {

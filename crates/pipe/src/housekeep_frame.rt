@@ -12,8 +12,7 @@ pub fn housekeep(
     let time = fields.long()?;
     fields.end()?;
     told(table.bytes_mut(), old, out, |table, out| {
-        let refusal = protocol::number_of(signon::housekeep(table, time));
-        out.put_refusal(b'K', refusal);
+        out.put_done(b'K', signon::housekeep(table, time));
     });
     Some(())
 }

@@ -23,15 +23,13 @@ pub fn load(table: &mut Kept<65536>, mut fields: Fields, out: &mut FrameOut) -> 
     let bytes = fields.text()?;
     fields.end()?;
     table.load(bytes)?;
-    let refusal = protocol::number_of(signon::check(bytes));
-    out.put_refusal(b'L', refusal);
+    out.put_done(b'L', signon::check(bytes));
     Some(())
 }
 
 pub fn check(table: &Kept<65536>, fields: Fields, out: &mut FrameOut) -> Option<()> {
     fields.end()?;
-    let refusal = protocol::number_of(signon::check(table.bytes()));
-    out.put_refusal(b'C', refusal);
+    out.put_done(b'C', signon::check(table.bytes()));
     Some(())
 }
 
@@ -50,7 +48,7 @@ pub fn format(table: &mut Kept<65536>, mut fields: Fields, out: &mut FrameOut) -
     let table = table.resize(size)?;
     table.fill(v);
     let done = signon::format(table, time);
-    out.put_refusal(b'F', protocol::number_of(done));
+    out.put_done(b'F', done);
     out.end = changed::put_changed(b"", told_after(done, table), &mut out.bytes, out.end);
     Some(())
 }
