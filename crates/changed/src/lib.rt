@@ -7,7 +7,8 @@ ghost use Rattle.protocol.specs.Bytes.{same};
 ghost use Rattle.protocol.specs.Written.{Wrote};
 ghost use Rattle.changed.specs.Changes.{block_at, change_at, changes_of, blocks_text, changed_text};
 
-// Are two texts of one length the same? The loop has no early end, so that many bytes are taken at a time.
+// Are two texts of one length the same? The loop has no early end, so that many bytes are taken at a time: with one, as `==` of slices has, comparing
+// was half of a call's time (docs/DECISIONS.md).
 #[tactic(auto, using(std::proofs::lemmas::Iterator::empty_from_Zip, crate::proofs::Compare::agree_next, crate::proofs::Compare::agree_all), unfolding(protocol::specs::Bytes::same))]
 fn alike(a: &[u8], b: &[u8]) -> bool
     requires { length a.now ≡ length b.now }
@@ -51,7 +52,7 @@ fn put_block(old: &[u8], new: &[u8], k: usize, out: &mut [u8], at: usize) -> usi
     at
 }
 
-// By number and not by a zip of the blocks: the number is told, and the old table may have fewer.
+// By number: a zip of the blocks is no plainer, since the number is told, and the old table may have fewer blocks.
 fn put_blocks(old: &[u8], new: &[u8], out: &mut [u8], at: usize) -> usize
     requires { at + 516 * (length new.now / 512) ≤ length out.old }
     ensures { Wrote out.old at out.new result (blocks_text (changes_of old.now new.now)) }

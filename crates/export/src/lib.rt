@@ -10,7 +10,7 @@ ghost use Rattle.export.specs.Numbers.{handed, answer_handed, finish_handed, vis
 
 use protocol::{Fault, Form, Method, Outcome, Visit};
 
-// The eight numbers of an outcome.
+// The eight numbers of an outcome. The list and its length are C's: each call judges it, and here and below it is a slice with a clause.
 // Lengths here and below are widened by `as`: from `usize` to `u64` there is no From.
 fn put_outcome(o: Outcome, list: &mut [u64])
     requires { length list.old ≡ 8 }

@@ -17,6 +17,7 @@ pub struct Request<'a> {
     body: &'a [u8],
     cookie: &'a [u8],
     random: &'a [u8],
+    // here and in the two other frames: a size's type would be opened at once, where the buffer is cut
     ghost out_fits: { out ≤ 16384 },
     ghost cookie_out_fits: { cookie_out ≤ 4096 },
 }

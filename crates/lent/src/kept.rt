@@ -50,7 +50,8 @@ impl<const N: usize> Kept<N> {
         Some(self.bytes_mut())
     }
 
-    // These bytes from here on: None where there is no room for them.
+    // These bytes from here on: None where there is no room for them. Not by `resize`, whose clause tells how long that is which it lends, and not
+    // that it is the front of the room.
     pub fn load(&mut self, bytes: &[u8]) -> Option<()>
         ensures value { IfSome result (λ _. take self.new.size self.new.room ≡ bytes.now) }
         ensures variant { IsSome result ↔ (length bytes.now ≤ N) }

@@ -34,7 +34,7 @@ fn spend(table: &mut [u8], lt: Value<'_, SHORT>) -> bool
 }
 
 // The service may be unknown; the login ticket was live, or not; username or password may be absent.
-// Four flags, since the meaning's `admission_of`, which may not change, asks these four.
+// Four flags: the meaning's `admission_of`, which may not change, asks these, the second as a slot or none.
 #[tactic(auto, unfolding(protocol::specs::Steps::admission_of))]
 fn admission_of(unknown: bool, live: bool, absent: bool, verdict: bool) -> Admission
     ensures { result ≡ admission_of unknown (slot_if live) absent verdict }

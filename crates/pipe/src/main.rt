@@ -63,7 +63,8 @@ fn main(rt: HostRuntime) -> io::Result<()> {
     run(&mut rt.stdin(), &mut rt.stdout(), &mut table, &mut register)
 }
 
-// Reads a frame: None where the input ends before it.
+// Reads a frame: None where the input ends before it. Three things apart: a read that failed ends the program by its error, a frame that is cut is
+// answered, and an end is neither.
 fn read_frame<'a>(
     input: &mut impl Read,
     room: &'a mut [u8; 131072],
@@ -112,7 +113,8 @@ fn run(
     Ok(())
 }
 
-// One frame in, one frame out. The old table is the one before a call, against which is told what the call changed.
+// One frame in, one frame out. The old table is the one before a call, against which is told what the call changed. Table, register, old table and
+// frame out are four: each frame takes those that it needs, and what `told` is given could not borrow them from one struct in parts.
 fn serve(
     table: &mut Kept<65536>,
     register: &mut Kept<8704>,

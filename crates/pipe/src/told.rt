@@ -4,7 +4,8 @@ ghost use Rattle.changed.specs.Changes.{Told};
 
 use super::frame_out::FrameOut;
 
-// The table is kept before the call, and told against after it.
+// The table is kept before the call, and told against after it. Here and in `format` the writer is `changed`'s, which knows no frame: `Told` speaks
+// of bytes and end.
 pub fn told<F: FnOnce(&mut [u8], &mut FrameOut)>(
     table: &mut [u8],
     old: &mut [u8; 65536],

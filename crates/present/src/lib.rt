@@ -17,7 +17,7 @@ use table_edit::NewRecord;
 use xml::Code;
 
 // What an accepted ticket leaves to be told of: its session, where its proxies start, 0 for none, and its mark.
-// `Ruling::Accepted` has the three apart, as the meaning's `ruling_of` has, which may not change; from there on they go together.
+// `Ruling::Accepted` has the three apart, as the meaning's `ruling_of` has, which may not change; from there on they go together, up to `success_of`.
 #[derive(Clone, Copy)]
 struct Accepted {
     session: u16,

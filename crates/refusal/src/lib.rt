@@ -48,7 +48,8 @@ pub fn of_check(table: &[u8]) -> Result<(), Refusal>
     unless(table_judge::table_lawful(table), Refusal::Table)
 }
 
-// Answer: 1 to 6.
+// Answer: 1 to 6. Here and below the time is judged and not handed out: what is answered is the refusal alone, as `answer_refusal` of protocol, which
+// may not change, has it, and who calls makes the `Time`.
 #[tactic(auto, using(crate::proofs::Laws::judged_no, crate::proofs::Laws::judged_yes, crate::proofs::Laws::rung_no, crate::proofs::Laws::rung_yes), unfolding(protocol::specs::Calls::check_of, protocol::specs::Calls::answer_refusal))]
 pub fn of_answer(table: &[u8], register: &[u8], time: u64, sizes: Sizes) -> Result<(), Refusal>
     ensures { number_of_result result

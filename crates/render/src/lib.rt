@@ -11,7 +11,8 @@ ghost use Rattle.render.specs.Parts.{title_lines, status_line, status_head, link
 // Each writer takes a place and answers the next one, and is no cursor: `Room` and `Wrote` of protocol, which may not change, speak of the two.
 // What stands between an opening and a closing is a number, a text, or a text escaped: one function for all would take what writes it as
 // a closure, and say no more than the three calls. A status is a number: so in the meaning's `ErrorPage` and `FormPage`, which may not change.
-// Texts of at most 64 or 200 bytes are slices with a clause: a type of such texts would ask more of who calls, and for 200 bytes there is none.
+// Texts of at most 64 or 200 bytes are slices with a clause: a type of such texts would ask more of who calls, and for 200 bytes there is none. The room of the output
+// is a clause, too, for the reason in `reply`.
 fn put_title(out: &mut [u8], status: u32) -> usize
     requires { Room out.old 0 (title_lines status) }
     ensures { Wrote out.old 0 out.new result (title_lines status) }

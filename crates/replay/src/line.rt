@@ -7,7 +7,7 @@ use protocol::{Form, Outcome, Refusal, Visit};
 use std::io;
 use std::io::Write;
 
-// The house check's value worked over a buffer of any length.
+// The house check's value worked over a buffer of any length: `block`'s takes at most 4,096 bytes.
 fn sum(s: &[u8]) -> u64 {
     let mut a: u64 = 1;
     let mut b: u64 = 0;

@@ -39,7 +39,7 @@ fn main(rt: HostRuntime) -> io::Result<()> {
     run(&mut rt.stdin(), &mut rt.stdout(), &mut table, &mut register)
 }
 
-// At most 2^40 frames, so that the program ends.
+// At most 2^40 frames, so that the program ends. Input, output, table and register are four: each frame takes those that it needs, and says so.
 fn run(
     input: &mut impl Read,
     output: &mut impl Write,

@@ -40,7 +40,7 @@ fn put_proxies(table: &[u8], parent: usize, out: &mut [u8], at: usize) -> usize
 }
 
 // Success by a ticket's mark: the user of a session, since when, an IOU if it is not empty, and the proxies from a parent on.
-// An empty IOU and parent 0 are none: so in the meaning's `success_of`, which may not change.
+// An empty IOU and parent 0 are none, and session, mark and parent are three: so in the meaning's `success_of`, which may not change.
 pub fn say_success(
     table: &[u8],
     session: usize,

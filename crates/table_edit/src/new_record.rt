@@ -1,7 +1,8 @@
 // A record to be added.
 ghost use Rattle.std.specs.Prelude.{◌≤◌, length};
 
-// What it says beside its kind, and beside what the table and the random input give it.
+// What it says beside its kind, and beside what the table and the random input give it. Parent and session 0 are none, and the mark is a number: so in
+// the table's format and in the meaning's `new_rec`, which may not change.
 #[derive(Clone, Copy)]
 pub struct NewRecord<'a> {
     pub mark: u8,
