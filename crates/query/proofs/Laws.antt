@@ -60,9 +60,19 @@ pub record Walking (q a b c d : List ℕ) (at : ℕ) (w : Places) : Type 0 where
   pub third : Noting q c at w.c
   pub fourth : Noting q d at w.d
 
-pub walking_start : (q a b c d : List ℕ) (p : Place) → p.count ≡ 0 → p.from ≡ 0 → p.to ≡ 0 → Walking q a b c d 0 (record { a = p; b = p; c = p; d = p })
-walking_start q a b c d p z f e =
-    record { first = noting_start q a p z f e; second = noting_start q b p z f e; third = noting_start q c p z f e; fourth = noting_start q d p z f e }
+-- at first nothing is noted of any
+abbrev Nothing : Place → Type 0
+Nothing p = (p.count ≡ 0) × (p.from ≡ 0) × (p.to ≡ 0)
+
+pub walking_start : (q a b c d : List ℕ) (at : ℕ) (w : Places) → at ≡ 0 → Nothing w.a × Nothing w.b × Nothing w.c × Nothing w.d → Walking q a b c d at w
+walking_start q a b c d at w z n =
+    rw z
+    (record {
+      first = noting_start q a w.a n.0.0 n.0.1 n.0.2;
+      second = noting_start q b w.b n.1.0 n.1.1 n.1.2;
+      third = noting_start q c w.c n.2.0 n.2.1 n.2.2;
+      fourth = noting_start q d w.d n.3.0 n.3.1 n.3.2;
+    })
 
 module _ (q : List ℕ) (p r : Piece) (e : r ≡ piece_after q p) where
   -- no piece is left: what was noted is what the query says

@@ -14,7 +14,7 @@ use protocol::{Path, Validator};
 // A piece: its name runs from `start` to `mid`, its raw value from `value` to `end`. An empty one stands for none.
 // Four places, and an empty one for none: the definition `piece_after`, of which the contracts of `next_piece`, `next` and `piece_after` speak and
 // which may not change, answers so.
-#[derive(Clone, Copy)]
+#[derive(Clone, Copy, Default)]
 pub struct Piece {
     pub start: usize,
     pub mid: usize,
@@ -32,7 +32,7 @@ pub struct Reader<'a> {
 // What a walk notes of a name: how many pieces have it, and where the raw value of the first lies; `raw_at` is that part of the query.
 // Places and no slice: whoever writes over the query, or wipes a password in it, must let its borrow go first, and still knows where the value stands.
 // No Option: the meaning's `occurrences` counts from 0, its `raw_value` is empty for an absent name, and neither may change.
-#[derive(Clone, Copy)]
+#[derive(Clone, Copy, Default)]
 pub struct Place {
     pub count: usize,
     pub from: usize,
@@ -40,7 +40,7 @@ pub struct Place {
 }
 
 // The same of four names. Four fields, and no array: the contract of `walk` speaks of four names, each by itself (`Walked`), and may not change.
-#[derive(Clone, Copy)]
+#[derive(Clone, Copy, Default)]
 pub struct Places {
     pub a: Place,
     pub b: Place,
@@ -201,23 +201,8 @@ fn noted(place: Place, name: &[u8], wanted: &[u8], from: usize, to: usize) -> Pl
 pub fn walk(q: &[u8], a: &[u8], b: &[u8], c: &[u8], d: &[u8]) -> Places
     ensures { Walked q.now a.now b.now c.now d.now result }
 {
-    let none = Place {
-        count: 0,
-        from: 0,
-        to: 0,
-    };
-    let mut at = Places {
-        a: none,
-        b: none,
-        c: none,
-        d: none,
-    };
-    let place = Piece {
-        start: 0,
-        mid: 0,
-        value: 0,
-        end: 0,
-    };
+    let mut at = Places::default();
+    let place = Piece::default();
     for piece in (Reader { query: q, place }) {
         let name = &q[piece.start..piece.mid];
         at = Places {

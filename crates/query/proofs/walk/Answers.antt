@@ -4,7 +4,17 @@ use Rattle.query.proofs.Laws.{walking_start, given_none, given_next, given_some,
 use Rattle.query.proofs.walk.Goals as goal
 
 pub loop-piece-init : goal.loop-piece-init
-loop-piece-init c = rw (c.into_iter-piece-iterator.ensures.into_iter_gives) (refl, walking_start _ _ _ _ _ _ refl refl refl)
+loop-piece-init c =
+    let n = c.default-at.ensures in
+    rw (c.into_iter-piece-iterator.ensures.into_iter_gives) (
+      refl,
+      walking_start _ _ _ _ _ _ c.default-at.result c.default-place.ensures.1.1.1 (
+        (n.0.0, n.0.1.0, n.0.1.1),
+        (n.1.0.0, n.1.0.1.0, n.1.0.1.1),
+        (n.1.1.0.0, n.1.1.0.1.0, n.1.1.0.1.1),
+        (n.1.1.1.0, n.1.1.1.1.0, n.1.1.1.1.1),
+      ),
+    )
 
 pub slice_bounds-name-count : goal.slice_bounds-name-count
 slice_bounds-name-count c = given_starts _ _ _ c.loop-piece.invariant.0 _ c.in-Some.ensures.steps
