@@ -28,15 +28,13 @@ fn is_changed(old: &[u8], new: &[u8], k: usize) -> bool
     requires { 512 * k + 512 ≤ length new.now }
     ensures { result ≡ not (same (block_at k old.now) (block_at k new.now)) }
 {
-    let from = 512 * k;
-    let end = from + 512;
-    if old.len() < end {
+    if old.len() < 512 * k + 512 {
         return true;
     }
-    !alike(&old[from..end], &new[from..end])
+    !alike(block::block_at(old, k), block::block_at(new, k))
 }
 
-// A block's number and bytes, if it changed.
+// A block's number and bytes, if it changed. By `block::block_at` the bytes were tried, and that they are what is told stayed open.
 fn put_block(old: &[u8], new: &[u8], k: usize, out: &mut [u8], at: usize) -> usize
     requires k_in_bounds { 512 * k + 512 ≤ length new.now }
     requires at_in_bounds { at + 516 ≤ length out.old }

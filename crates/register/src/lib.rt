@@ -207,8 +207,8 @@ fn put_entry(b: &mut [u8; 512], service: &[u8], callback: &[u8])
     requires { (length service.now ≤ 200) × (length callback.now ≤ 200) }
     ensures { b.new ≡ encode_entry (entry service.now callback.now) }
 {
-    block::put(b, 0, 2, service.len() as u64);
-    block::put(b, 2, 2, callback.len() as u64);
+    block::write(b, 0, service.len() as u16);
+    block::write(b, 2, callback.len() as u16);
     block::pad_at(b, 4, 200, service);
     block::pad_at(b, 204, 304, callback);
     block::seal(b);
